@@ -1,0 +1,2 @@
+-- What the contract of a trap's code cites.
+pub mod Causes

@@ -1,0 +1,74 @@
+//! How a host uses the library: decode a word, calculate, keep registers, and handle a refusal.
+
+use leavnnjar::Refusal;
+use leavnnjar::decode::Instruction;
+use leavnnjar::extensions::{amomax_w, div, mulhu};
+use leavnnjar::gpr::Gpr;
+
+fn main() -> Result<(), Refusal> {
+    decode();
+    arithmetic();
+    registers()
+}
+
+fn decode() {
+    let word = Instruction(0xFFF0_0093);
+    println!("decode {:#010x}, which is addi x1, x0, -1", word.0);
+    println!("  opcode {:#x}", word.opcode());
+    println!("  funct3 {}", word.funct3());
+    println!("  rd     x{}", word.rd());
+    println!("  rs1    x{}", word.rs1());
+    println!("  imm_i  {}", word.imm_i());
+}
+
+fn arithmetic() {
+    println!("arithmetic");
+    println!(
+        "  mulhu of 2^64 - 1 twice  {:#x}",
+        mulhu(u64::MAX, u64::MAX)
+    );
+
+    // RISC-V does not trap here: the quotient is all ones.
+    println!("  div of 7 by 0            {:#x}", div(7, 0));
+
+    // An atomic operation gives what the instruction returns and what the host stores.
+    let (returned, new) = amomax_w(0xFFFF_FFFF, 1);
+    println!("  amomax_w of -1 and 1     returns {returned:#x}, stores {new}");
+}
+
+fn registers() -> Result<(), Refusal> {
+    println!("registers");
+    let mut regs = Gpr::new(0x8000_0000);
+    println!("  pc at the start          {:#x}", regs.pc());
+
+    regs.write(10, 42)?;
+    println!("  x10 after writing 42     {}", regs.read(10)?);
+
+    regs.write(0, 42)?;
+    println!("  x0 after writing 42      {}", regs.read(0)?);
+
+    // A 32-bit float is kept with ones above it; a register without them reads as NaN.
+    regs.write_f32(1, 1.5_f32.to_bits())?;
+    println!("  f1 holding 1.5           {:#x}", regs.read_f(1)?);
+    println!(
+        "  f1 read back             {}",
+        f32::from_bits(regs.read_f32(1)?)
+    );
+    regs.write_f(1, 1.5_f64.to_bits())?;
+    println!(
+        "  f1 holding a double      reads {} as 32 bits",
+        f32::from_bits(regs.read_f32(1)?)
+    );
+
+    // There is no register 32. The original would panic; here the host hears of it and nothing is changed.
+    let before = regs.clone();
+    match regs.write(32, 7) {
+        Ok(()) => println!("  write to x32             done"),
+        Err(refusal) => println!(
+            "  write to x32             refused, no. {}: {refusal}",
+            refusal.number()
+        ),
+    }
+    println!("  registers unchanged      {}", regs == before);
+    Ok(())
+}
