@@ -27,14 +27,14 @@ module _ (k s n : ℕ) (h : 0 < k) (g : n < 2 ^ k) where
   pub shifted : shrZ (signed (k + s) (n * 2 ^ s)) (2 ^ s) ≡ signed k n
   shifted = by-order n (2 ^ (k - 1))
       (λ p.
-        let q : n * 2 ^ s < 2 ^ (k + s - 1) = rw half (mul-lt-mul-of-pos-right p (pow-pos s))
-        in rw (signed-below (k + s) (n * 2 ^ s) q, signed-below k n p) (ap pos (mul-div-cancel n (pow-pos s))))
+      let q : n * 2 ^ s < 2 ^ (k + s - 1) = rw half (mul-lt-mul-of-pos-right p (pow-pos s))
+      in rw (signed-below (k + s) (n * 2 ^ s) q, signed-below k n p) (ap pos (mul-div-cancel n (pow-pos s))))
       (λ p.
-        let q : 2 ^ (k + s - 1) ≤ n * 2 ^ s = rw half (mul-le-mul-right (2 ^ s) p)
-        in let c : 2 ^ k * 2 ^ s - suc (n * 2 ^ s) ≡ (2 ^ k - suc n) * 2 ^ s + (2 ^ s - 1) =
-            ap (λ (x : ℕ). 2 ^ k * 2 ^ s - suc x) (sym (add-zero (n * 2 ^ s))) ∙ complement (2 ^ k) (2 ^ s) n 0 g (pow-pos s)
-        in let t : 2 ^ s - 1 < 2 ^ s = omega (arith, pow-pos s)
-        in rw (signed-above (k + s) (n * 2 ^ s) q, signed-above k n p, up, c) (ap negsuc (digits-div (2 ^ k - suc n) t)))
+      let q : 2 ^ (k + s - 1) ≤ n * 2 ^ s = rw half (mul-le-mul-right (2 ^ s) p)
+      in let c : 2 ^ k * 2 ^ s - suc (n * 2 ^ s) ≡ (2 ^ k - suc n) * 2 ^ s + (2 ^ s - 1) =
+      ap (λ (x : ℕ). 2 ^ k * 2 ^ s - suc x) (sym (add-zero (n * 2 ^ s))) ∙ complement (2 ^ k) (2 ^ s) n 0 g (pow-pos s)
+      in let t : 2 ^ s - 1 < 2 ^ s = omega (arith, pow-pos s)
+      in rw (signed-above (k + s) (n * 2 ^ s) q, signed-above k n p, up, c) (ap negsuc (digits-div (2 ^ k - suc n) t)))
 
 -- the same as the machine has it: v shifted to the left by 64 - k, and arithmetically to the right
 pub by-shifts : (v k : ℕ) → 0 < k → k ≤ 64 → toZ w64 (ofZ w64 (shrZ (toZ w64 (v * 2 ^ (64 - k) % 2 ^ 64)) (2 ^ (64 - k)))) ≡ signed k (v % 2 ^ k)

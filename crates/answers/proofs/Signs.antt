@@ -45,6 +45,11 @@ signed-low k (negsuc n) p h =
     in let e : 2 ^ k - suc (2 ^ k - suc n) ≡ n = omega arith
     in rw (mod-eq-of-lt {n = n} {m = 2 ^ k} (omega arith), signed-above k (2 ^ k - suc n) (omega arith)) (ap negsuc e)
 
+pub mag-signed : (k n : ℕ) → 0 < k → n < 2 ^ k → mag (signed k n) < 2 ^ (k - 1)
+mag-signed k n p h =
+    let d : 2 ^ k ≡ 2 ^ (k - 1) * 2 = double k p
+    in by-order n (2 ^ (k - 1)) (λ q. rw (signed-below k n q) q) (λ q. rw (signed-above k n q) (omega arith))
+
 -- ---- low bits
 
 pub low-fits : (k : ℕ) (z : ℤ) → low k z < 2 ^ k

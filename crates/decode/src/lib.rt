@@ -71,7 +71,10 @@ impl Instruction {
         let bit11 = (raw >> 7) % 2;
         let bits10_5 = (raw >> 25) % 64;
         let bits4_1 = (raw >> 8) % 16;
-        extend(bit12 * 4096 + bit11 * 2048 + bits10_5 * 32 + bits4_1 * 2, 13)
+        extend(
+            bit12 * 4096 + bit11 * 2048 + bits10_5 * 32 + bits4_1 * 2,
+            13,
+        )
     }
 
     // U-type immediate
@@ -90,7 +93,10 @@ impl Instruction {
         let bits10_1 = (raw >> 21) % 1024;
         let bit11 = (raw >> 20) % 2;
         let bits19_12 = (raw >> 12) % 256;
-        extend(bit20 * 0x10_0000 + bits19_12 * 4096 + bit11 * 2048 + bits10_1 * 2, 21)
+        extend(
+            bit20 * 0x10_0000 + bits19_12 * 4096 + bit11 * 2048 + bits10_1 * 2,
+            21,
+        )
     }
 
     // CSR address

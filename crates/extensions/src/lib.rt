@@ -237,7 +237,8 @@ fn less_w(a: u32, b: u32) -> bool
 fn less_d(a: u64, b: u64) -> bool
     ensures { λ r. ⌜ r ≡ ltZ (signed 64 a) (signed 64 b) ⌝ }
 {
-    std::num::wrapping_add_u64(a, 0x8000_0000_0000_0000) < std::num::wrapping_add_u64(b, 0x8000_0000_0000_0000)
+    std::num::wrapping_add_u64(a, 0x8000_0000_0000_0000)
+        < std::num::wrapping_add_u64(b, 0x8000_0000_0000_0000)
 }
 
 pub fn divw(lhs: u64, rhs: u64) -> u64

@@ -1,110 +1,85 @@
+-- `extensions::apply_d` meets its contract, operation by operation. Assumes nothing.
+use mathlib.Core.Path.{_≡_, refl, sym, _∙_}
+use borrow.Author.Tests.{lt-ltb, le-ltb}
+use Rattle.extensions.proofs.Operations.{by-op, first, second}
 use borrow.Author.Needs.{needs}
 use Rattle.extensions.proofs.apply_d.Statement.{statement}
 use Rattle.extensions.proofs.apply_d.Tie as tie
-use Rattle.extensions.proofs.apply_d.Reads as reads
-use Rattle.extensions.proofs.apply_d.Lts as lts
-use Rattle.extensions.proofs.less_d.Reads as less-d-reads
-use Rattle.std.proofs.num.wrapping_add_u64.Reads as wrapping-add-u64-reads
 
--- src/lib.rt:194:22
 enum-told : tie.Need-enum-told
 enum-told c = search needs
 
--- src/lib.rt:195:21
 enum-told-2 : tie.Need-enum-told-2
 enum-told-2 c = search needs
 
--- src/lib.rt:195:21
 wrapping-add-u64-requires : tie.Need-wrapping-add-u64-requires
 wrapping-add-u64-requires c κs = search needs
 
--- src/lib.rt:196:21
 enum-told-3 : tie.Need-enum-told-3
 enum-told-3 c = search needs
 
--- src/lib.rt:197:21
 enum-told-4 : tie.Need-enum-told-4
 enum-told-4 c = search needs
 
--- src/lib.rt:198:20
 enum-told-5 : tie.Need-enum-told-5
 enum-told-5 c = search needs
 
--- src/lib.rt:200:16
 enum-told-6 : tie.Need-enum-told-6
 enum-told-6 c = search needs
 
--- src/lib.rt:200:16
 less-d-requires : tie.Need-less-d-requires
 less-d-requires c κs = search needs
 
--- src/lib.rt:207:16
 enum-told-7 : tie.Need-enum-told-7
 enum-told-7 c = search needs
 
--- src/lib.rt:207:16
 less-d-requires-2 : tie.Need-less-d-requires-2
 less-d-requires-2 c κs = search needs
 
--- src/lib.rt:214:16
 enum-told-8 : tie.Need-enum-told-8
 enum-told-8 c = search needs
 
--- src/lib.rt:221:16
 enum-told-9 : tie.Need-enum-told-9
 enum-told-9 c = search needs
 
--- src/lib.rt:190:1
 returns : tie.Need-returns
 returns c = search needs
 
--- src/lib.rt:190:1
 returns-2 : tie.Need-returns-2
-returns-2 c = ?
+returns-2 c = by-op 64 (c .before .before .before .args .memory-value) (c .before .before .before .args .src) (c .before .enum-told2 .given .1) (c .wrapping-add-u64 .ensures)
 
--- src/lib.rt:190:1
 returns-3 : tie.Need-returns-3
-returns-3 c = ?
+returns-3 c = by-op 64 (c .before .before .args .memory-value) (c .before .before .args .src) (c .enum-told3 .given .1) refl
 
--- src/lib.rt:190:1
 returns-4 : tie.Need-returns-4
-returns-4 c = ?
+returns-4 c = by-op 64 (c .before .before .args .memory-value) (c .before .before .args .src) (c .enum-told4 .given .1) refl
 
--- src/lib.rt:190:1
 returns-5 : tie.Need-returns-5
-returns-5 c = ?
+returns-5 c = by-op 64 (c .before .before .args .memory-value) (c .before .before .args .src) (c .enum-told5 .given .1) refl
 
--- src/lib.rt:190:1
 returns-6 : tie.Need-returns-6
-returns-6 c = ?
+returns-6 c = by-op 64 (c .before .before .before .before .args .memory-value) (c .before .before .before .before .args .src) (c .before .before .enum-told6 .given .1) (first (c .before .before .before .before .args .src) (c .before .before .before .before .args .memory-value) (sym (c .before .less-d .ensures) ∙ c .if1 .taken))
 
--- src/lib.rt:190:1
 returns-7 : tie.Need-returns-7
-returns-7 c = ?
+returns-7 c = by-op 64 (c .before .before .before .before .args .memory-value) (c .before .before .before .before .args .src) (c .before .before .enum-told6 .given .1) (second (c .before .before .before .before .args .src) (c .before .before .before .before .args .memory-value) (sym (c .before .less-d .ensures) ∙ c .if1 .left))
 
--- src/lib.rt:190:1
 returns-8 : tie.Need-returns-8
-returns-8 c = ?
+returns-8 c = by-op 64 (c .before .before .before .before .args .memory-value) (c .before .before .before .before .args .src) (c .before .before .enum-told7 .given .1) (first (c .before .before .before .before .args .src) (c .before .before .before .before .args .memory-value) (sym (c .before .less-d2 .ensures) ∙ c .if2 .taken))
 
--- src/lib.rt:190:1
 returns-9 : tie.Need-returns-9
-returns-9 c = ?
+returns-9 c = by-op 64 (c .before .before .before .before .args .memory-value) (c .before .before .before .before .args .src) (c .before .before .enum-told7 .given .1) (second (c .before .before .before .before .args .src) (c .before .before .before .before .args .memory-value) (sym (c .before .less-d2 .ensures) ∙ c .if2 .left))
 
--- src/lib.rt:190:1
 returns-10 : tie.Need-returns-10
-returns-10 c = ?
+returns-10 c = by-op 64 (c .before .before .before .args .memory-value) (c .before .before .before .args .src) (c .before .enum-told8 .given .1) (first (c .before .before .before .args .src) (c .before .before .before .args .memory-value) (lt-ltb (c .before .before .before .args .src) (c .before .before .before .args .memory-value) (c .if3 .taken)))
 
--- src/lib.rt:190:1
 returns-11 : tie.Need-returns-11
-returns-11 c = ?
+returns-11 c = by-op 64 (c .before .before .before .args .memory-value) (c .before .before .before .args .src) (c .before .enum-told8 .given .1) (second (c .before .before .before .args .src) (c .before .before .before .args .memory-value) (le-ltb (c .before .before .before .args .src) (c .before .before .before .args .memory-value) (c .if3 .left)))
 
--- src/lib.rt:190:1
 returns-12 : tie.Need-returns-12
-returns-12 c = ?
+returns-12 c = by-op 64 (c .before .before .before .args .memory-value) (c .before .before .before .args .src) (c .before .enum-told9 .given .1) (first (c .before .before .before .args .src) (c .before .before .before .args .memory-value) (lt-ltb (c .before .before .before .args .memory-value) (c .before .before .before .args .src) (c .if4 .taken)))
 
--- src/lib.rt:190:1
 returns-13 : tie.Need-returns-13
-returns-13 c = ?
+returns-13 c = by-op 64 (c .before .before .before .args .memory-value) (c .before .before .before .args .src) (c .before .enum-told9 .given .1) (second (c .before .before .before .args .src) (c .before .before .before .args .memory-value) (le-ltb (c .before .before .before .args .memory-value) (c .before .before .before .args .src) (c .if4 .left)))
 
 pub apply-d-spec : {M : Type 1} → statement M
 apply-d-spec =

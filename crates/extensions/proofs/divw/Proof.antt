@@ -1,30 +1,31 @@
+-- `extensions::divw` meets its contract: the law of the signed word forms, at the quotient. Assumes nothing.
+use mathlib.Core.Path.{_≡_, ap, _∙_}
+use Prim.Native.Nat.{ℕ}
+use lib.IntN.{pos}
+use Rattle.answers.specs.Bits.{extended}
+use Rattle.extensions.specs.Divide.{quotient, divOf}
+use Rattle.extensions.proofs.Words.{sgn-form}
 use borrow.Author.Needs.{needs}
 use Rattle.extensions.proofs.divw.Statement.{statement}
 use Rattle.extensions.proofs.divw.Tie as tie
-use Rattle.extensions.proofs.divw.Reads as reads
-use Rattle.extensions.proofs.divw.Lts as lts
-use Rattle.extensions.proofs.div.Reads as div-reads
-use Rattle.extensions.proofs.extend_word.Reads as extend-word-reads
 
--- src/lib.rt:246:21
 extend-word-requires : tie.Need-extend-word-requires
 extend-word-requires c κs = search needs
 
--- src/lib.rt:246:39
 extend-word-requires-2 : tie.Need-extend-word-requires-2
 extend-word-requires-2 c κs = search needs
 
--- src/lib.rt:246:17
 div-requires : tie.Need-div-requires
 div-requires c κs = search needs
 
--- src/lib.rt:246:5
 extend-word-requires-3 : tie.Need-extend-word-requires-3
 extend-word-requires-3 c κs = search needs
 
--- src/lib.rt:243:1
 returns : tie.Need-returns
-returns c = ?
+returns c =
+    let s = c .before .before .before .before
+    in c .extend-word3 .ensures ∙ ap (λ (n : ℕ). extended 32 (pos n)) (c .before .div .ensures ∙ ap (λ (n : ℕ). divOf 64 n (c .before .before .extend-word2 .result)) (c .before .before .before .extend-word .ensures) ∙ ap (divOf 64 (extended 32 (pos (s .args .lhs)))) (c .before .before .extend-word2 .ensures))
+    ∙ sgn-form quotient (s .args .lhs) (s .args .rhs)
 
 pub divw-spec : {M : Type 1} → statement M
 divw-spec =

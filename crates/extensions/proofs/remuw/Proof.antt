@@ -1,22 +1,24 @@
+-- `extensions::remuw` meets its contract: the law of the unsigned word forms, at the remainder. Assumes nothing.
+use mathlib.Core.Path.{_≡_, ap, _∙_}
+use Prim.Native.Nat.{ℕ}
+use lib.IntN.{pos}
+use Rattle.answers.specs.Bits.{extended}
+use Rattle.extensions.specs.Divide.{remainder}
+use Rattle.extensions.proofs.Words.{uns-form}
 use borrow.Author.Needs.{needs}
 use Rattle.extensions.proofs.remuw.Statement.{statement}
 use Rattle.extensions.proofs.remuw.Tie as tie
-use Rattle.extensions.proofs.remuw.Reads as reads
-use Rattle.extensions.proofs.remuw.Lts as lts
-use Rattle.extensions.proofs.extend_word.Reads as extend-word-reads
-use Rattle.extensions.proofs.remu.Reads as remu-reads
 
--- src/lib.rt:264:17
 remu-requires : tie.Need-remu-requires
 remu-requires c κs = search needs
 
--- src/lib.rt:264:5
 extend-word-requires : tie.Need-extend-word-requires
 extend-word-requires c κs = search needs
 
--- src/lib.rt:261:1
 returns : tie.Need-returns
-returns c = ?
+returns c =
+    let s = c .before .before
+    in c .extend-word .ensures ∙ ap (λ (n : ℕ). extended 32 (pos n)) (c .before .remu .ensures) ∙ uns-form remainder (s .args .lhs) (s .args .rhs)
 
 pub remuw-spec : {M : Type 1} → statement M
 remuw-spec = tie.close (tie.spec remu-requires extend-word-requires returns)
