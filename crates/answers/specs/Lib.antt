@@ -3,3 +3,4 @@ pub mod Refusals
 pub mod Told
 pub mod Answers
 pub mod Bits
+pub mod Gave

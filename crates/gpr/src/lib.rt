@@ -2,7 +2,7 @@
 ghost use mathlib.Core.Path.{_≡_};
 ghost use Rattle.answers.specs.Answers.{reading, acceptance};
 ghost use Rattle.gpr.specs.Boxes.{boxed, unboxed};
-ghost use Rattle.gpr.specs.Registers.{reading32, resetGpr, shown, readX, readF, readF32, wrote, writeX, writeF, writeF32, readMasked, writeMasked};
+ghost use Rattle.gpr.specs.Registers.{reading32, resetGpr, withX, withF, shown, readX, readF, readF32, wrote, writeX, writeF, writeF32, readMasked, writeMasked};
 use answers::Acceptance;
 use answers::Reading;
 use answers::Refusal;
@@ -37,7 +37,7 @@ impl Gpr {
     }
 
     pub fn read(self, reg: usize) -> Reading
-        ensures { λ r. ⌜ reading r ≡ readX self reg ⌝ }
+        ensures { λ r. ⌜ reading r ≡ readX (self .x) reg ⌝ }
     {
         if 31 < reg {
             return Reading::Refused(Refusal::Register);
@@ -46,14 +46,14 @@ impl Gpr {
     }
 
     pub fn read_masked(self, reg: u8) -> u64
-        ensures { λ r. ⌜ r ≡ readMasked self reg ⌝ }
+        ensures { λ r. ⌜ r ≡ readMasked (self .x) reg ⌝ }
     {
         let at = (reg % 32) as usize;
         show(at, self.x[at])
     }
 
     pub fn write_masked(self, reg: u8, val: u64) -> Gpr
-        ensures { λ r. ⌜ r ≡ writeMasked self reg val ⌝ }
+        ensures { λ r. ⌜ r ≡ withX self (writeMasked (self .x) reg val) ⌝ }
     {
         let mut next = self;
         let at = (reg % 32) as usize;
@@ -63,7 +63,7 @@ impl Gpr {
     }
 
     pub fn read_f(self, reg: usize) -> Reading
-        ensures { λ r. ⌜ reading r ≡ readF self reg ⌝ }
+        ensures { λ r. ⌜ reading r ≡ readF (self .f) reg ⌝ }
     {
         if 31 < reg {
             return Reading::Refused(Refusal::Register);
@@ -72,7 +72,7 @@ impl Gpr {
     }
 
     pub fn write(self, reg: usize, val: u64) -> Written
-        ensures { λ r. ⌜ (acceptance (r .answer) ≡ wrote reg) × (r .gpr ≡ writeX self reg val) ⌝ }
+        ensures { λ r. ⌜ (acceptance (r .answer) ≡ wrote reg) × (r .gpr ≡ withX self (writeX (self .x) reg val)) ⌝ }
     {
         if 31 < reg {
             return Written {
@@ -95,7 +95,7 @@ impl Gpr {
     }
 
     pub fn write_f(self, reg: usize, val: u64) -> Written
-        ensures { λ r. ⌜ (acceptance (r .answer) ≡ wrote reg) × (r .gpr ≡ writeF self reg val) ⌝ }
+        ensures { λ r. ⌜ (acceptance (r .answer) ≡ wrote reg) × (r .gpr ≡ withF self (writeF (self .f) reg val)) ⌝ }
     {
         if 31 < reg {
             return Written {
@@ -112,13 +112,13 @@ impl Gpr {
     }
 
     pub fn write_f32(self, reg: usize, val: u32) -> Written
-        ensures { λ r. ⌜ (acceptance (r .answer) ≡ wrote reg) × (r .gpr ≡ writeF32 self reg val) ⌝ }
+        ensures { λ r. ⌜ (acceptance (r .answer) ≡ wrote reg) × (r .gpr ≡ withF self (writeF32 (self .f) reg val)) ⌝ }
     {
         self.write_f(reg, nan_box(val))
     }
 
     pub fn read_f32(self, reg: usize) -> Reading32
-        ensures { λ r. ⌜ reading32 r ≡ readF32 self reg ⌝ }
+        ensures { λ r. ⌜ reading32 r ≡ readF32 (self .f) reg ⌝ }
     {
         if 31 < reg {
             return Reading32::Refused(Refusal::Register);
@@ -131,11 +131,7 @@ impl Gpr {
 pub fn show(reg: usize, word: u64) -> u64
     ensures { λ r. ⌜ r ≡ shown reg word ⌝ }
 {
-    if reg == 0 {
-        0
-    } else {
-        word
-    }
+    if reg == 0 { 0 } else { word }
 }
 
 // A 32-bit float value as a float register holds it: with ones above it.

@@ -1,0 +1,4 @@
+// The door for a Rust host: plain numbers, words and byte slices. Every name begins with rv_, and an answer is document 01's number.
+pub mod arithmetic;
+pub mod fields;
+pub mod registers;
