@@ -7,10 +7,17 @@ use lib.Pow.{pow-pos, mod-mod-pow}
 use lib.IntN.{ℤ, pos}
 use lib.Signed.{mag}
 use Rattle.answers.specs.Bits.{signed, low, extended}
-use Rattle.answers.proofs.Signs.{signed-low, mag-signed, low-fits, low-of-low, extended-64}
+use Rattle.answers.proofs.Orders.{by-order}
+use Rattle.answers.proofs.Signs.{signed-below, signed-above, signed-low, mag-signed, low-fits, low-of-low, extended-64}
 use Rattle.extensions.specs.Operands.{uns, sgn}
 use Rattle.extensions.proofs.Registers.{whole}
 use Rattle.extensions.proofs.Products.{halves}
+
+-- half the words' range added with wrap, and taken away: the sign goes up
+pub by-sum : (x r : ℕ) → r < 2 ^ 64 → (r + 2 ^ 31) % 2 ^ 64 ≡ (x % 2 ^ 32 + 2 ^ 31) % 2 ^ 32 → r ≡ extended 32 (pos x)
+by-sum x r h e =
+    let n = x % 2 ^ 32
+    in by-order n (2 ^ 31) (λ p. rw (signed-below 32 n p) (omega arith)) (λ p. rw (signed-above 32 n p) (omega arith))
 
 -- an extended word, read as a signed doubleword
 pub sgn-word : (a : ℕ) → sgn 64 (extended 32 (pos a)) ≡ sgn 32 a
