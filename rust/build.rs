@@ -1,4 +1,5 @@
-//! Tells cargo where the static library lies: in `LEAVNNJAR_LIB`, else where `rt staticlib host` writes it.
+//! Tells cargo where the static library lies: in `LEAVNNJAR_LIB`, else where `rt staticlib host`
+//! writes it.
 
 use std::env;
 

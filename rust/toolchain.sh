@@ -1,3 +1,4 @@
+# shellcheck shell=bash
 # Sourced by the scripts here: the compiler, the static library and the builds that they share.
 #
 # The static library is x86-64's. On an x86-64 machine the installed Rust links it directly; on an aarch64 machine the programs are
@@ -49,7 +50,7 @@ find_rustc() {
         # Debian's own compiler: its library for x86-64 comes as a package, and one of rustup's would not take it.
         rustc=(/usr/bin/rustc --target x86_64-unknown-linux-gnu -C linker=x86_64-linux-gnu-gcc)
         emulator=(qemu-x86_64)
-        if ! compiles "${rustc[@]}" || ! command -v "${emulator[0]}" >/dev/null; then
+        if ! compiles "${rustc[@]}" || ! type -P "${emulator[@]}" >/dev/null; then
             as_root dpkg --add-architecture amd64
             need rustc-web libstd-rust-web-dev:amd64 gcc-x86-64-linux-gnu libc6-dev-amd64-cross qemu-user
         fi

@@ -60,7 +60,8 @@ fn registers() -> Result<(), Refusal> {
         f32::from_bits(regs.read_f32(1)?)
     );
 
-    // There is no register 32. The original would panic; here the host hears of it and nothing is changed.
+    // There is no register 32. The original would panic; here the host hears of it and nothing is
+    // changed.
     let before = regs.clone();
     match regs.write(32, 7) {
         Ok(()) => println!("  write to x32             done"),

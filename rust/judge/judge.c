@@ -1,5 +1,6 @@
-// Reads pairs of 64-bit numbers and writes, for each pair, what the processor makes of it: the 13 instructions of M, then the nine
-// of A on words and on doublewords. An AMO gives what it returned and what memory then holds. judge.rs has the same order.
+// Reads pairs of 64-bit numbers and writes, for each pair, what the processor makes of it: the 13
+// instructions of M, then the nine of A on words and on doublewords. An AMO gives what it returned
+// and what memory then holds. judge.rs has the same order.
 //
 // It stands on Linux's read, write and exit alone, so that any RISC-V gcc builds it.
 

@@ -1,7 +1,7 @@
 //! Compares the library's M and A arithmetic with that of an outside RISC-V processor.
 //!
-//! `judge operands FILE` writes the operand pairs for judge.c to execute; `judge compare OPERANDS ANSWERS` holds its answers to the
-//! library's. `run` does both.
+//! `judge operands FILE` writes the operand pairs for judge.c to execute; `judge compare OPERANDS
+//! ANSWERS` holds its answers to the library's. `run` does both.
 
 #[path = "../tests/common.rs"]
 mod common;

@@ -1,4 +1,5 @@
-// The integer registers are private. The comparison reads and sets the whole state: x0 to x31, pc, f0 to f31.
+// The integer registers are private. The comparison reads and sets the whole state: x0 to x31, pc,
+// f0 to f31.
 impl Gpr {
     pub fn oracle_words(&self) -> [u64; 65] {
         let mut words = [0; 65];

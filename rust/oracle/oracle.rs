@@ -1,7 +1,8 @@
-//! The original, unchanged: `../compare` copies its files to target/oracle and appends to the copies the *.append.rs of this folder.
+//! The original, unchanged: `../compare` copies its files to target/oracle and appends to the
+//! copies the *.append.rs of this folder.
 //!
-//! A module joins when the library exports it. csr.rs joins as it is; system_bus.rs and mmu.rs name `crate::syscall_trace` and
-//! `crate::perf`, for which small stand-ins belong in this folder.
+//! A module joins when the library exports it. csr.rs joins as it is; system_bus.rs and mmu.rs name
+//! `crate::syscall_trace` and `crate::perf`, for which small stand-ins belong in this folder.
 
 #[path = "../../target/oracle/decode.rs"]
 pub mod decode;

@@ -74,5 +74,5 @@ pub(crate) fn done(answer: u32) -> Result<(), Refusal> {
     }
 
     let refusal = Refusal::ALL.into_iter().find(|r| r.number() == answer);
-    Err(refusal.expect("the library answers no other number"))
+    Err(refusal.unwrap_or_else(|| panic!("the library never answers {answer} here")))
 }

@@ -1,10 +1,12 @@
-//! What the static library exports, in the order of its interface.
+//! What the static library exports, in the original's order.
 //!
-//! A number passes as itself, and a lent array or number as one pointer, which is how `extern "C"` passes a Rust reference.
+//! A number passes as itself, and a lent array or number as one pointer, which is how `extern "C"`
+//! passes a Rust reference.
 
-// Sound, and every function safe to call, because the library's functions are proved for any input: they return, they touch nothing
-// but what is lent here, and they write only what is lent as `&mut`. What no proof covers is that these lines say the same as the
-// library's own: the differential tests do.
+// Sound, and every function safe to call, because the library's functions are proved for any input:
+// they return, they touch nothing but what is lent here, and they write only what is lent as
+// `&mut`. What no proof covers is that these lines say the same as the library's own: the
+// differential tests do.
 unsafe extern "C" {
     // Decode: a word.
     pub safe fn rv_opcode(word: u32) -> u32;

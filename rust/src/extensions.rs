@@ -1,7 +1,8 @@
 //! M and A arithmetic on register values.
 //!
-//! Word forms use the low 32 bits of an operand and sign-extend the result. An atomic operation gives the old memory value, which the
-//! instruction returns, and the new one, which the host stores.
+//! Word forms use the low 32 bits of an operand and sign-extend the result. An atomic operation
+//! gives the old memory value, which the instruction returns, and the new one, which the host
+//! stores.
 //!
 //! ```
 //! use leavnnjar::extensions::{amomax_w, div, mulhu};

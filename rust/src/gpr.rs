@@ -41,7 +41,8 @@ impl Gpr {
         Self { words }
     }
 
-    /// The registers that these words hold: x0 to x31, pc, f0 to f31. Any words will do; x0 reads 0 whatever its word is.
+    /// The registers that these words hold: x0 to x31, pc, f0 to f31. Any words will do; x0 reads 0
+    /// whatever its word is.
     #[inline]
     pub fn from_words(words: [u64; 65]) -> Self {
         Self { words }
@@ -111,7 +112,8 @@ impl Gpr {
         done(door::rv_gpr_write_f32(&mut self.words, reg, val))
     }
 
-    /// The 32-bit value of a float register, or 0x7FC00000 where the 32 one bits above it are missing.
+    /// The 32-bit value of a float register, or 0x7FC00000 where the 32 one bits above it are
+    /// missing.
     #[inline]
     pub fn read_f32(&self, reg: usize) -> Result<u32, Refusal> {
         let mut out = 0;

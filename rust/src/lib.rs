@@ -1,8 +1,9 @@
 //! A safe door to the proved parts of an RV64 hart.
 //!
-//! The work is done by a static library, `libhost.a`, that is written in Rattle and proved against the RISC-V manuals.
-//! This crate declares what it exports and gives it the names and the types of the Rust that it was ported from. A host needs no
-//! `unsafe`: every call takes any input, and where the original would panic it gives back a [`Refusal`] and changes nothing.
+//! The work is done by a static library, `libhost.a`, that is written in Rattle and proved against
+//! the RISC-V manuals. This crate declares what it exports and gives it the names and the types of
+//! the Rust that it was ported from. A host needs no `unsafe`: every call takes any input, and
+//! where the original would panic it gives back a [`Refusal`] and changes nothing.
 //!
 //! ```
 //! use leavnnjar::decode::Instruction;

@@ -25,7 +25,8 @@ impl Random {
         self.word() % bound
     }
 
-    /// A word of any length and sign. Even odds for each bit would make nearly every quotient 0 or 1 and nearly no operand short.
+    /// A word of any length and sign. Even odds for each bit would make nearly every quotient 0 or
+    /// 1 and nearly no operand short.
     pub fn operand(&mut self) -> u64 {
         let short = self.word() >> self.below(64);
         match self.below(3) {
@@ -36,7 +37,8 @@ impl Random {
     }
 }
 
-/// The seed: `SEED`, decimal or 0x and hexadecimal, else a fixed one. It is printed, so that a run can be repeated.
+/// The seed: `SEED`, decimal or 0x and hexadecimal, else a fixed one. It is printed, so that a run
+/// can be repeated.
 pub fn seed() -> u64 {
     let seed = match env::var("SEED") {
         Err(_) => 0x5EED,
@@ -49,7 +51,8 @@ pub fn seed() -> u64 {
     seed
 }
 
-/// Words at which arithmetic turns: 0, the least and greatest of each width and sign, their neighbours, and mixed patterns.
+/// Words at which arithmetic turns: 0, the least and greatest of each width and sign, their
+/// neighbours, and mixed patterns.
 pub fn boundaries() -> Vec<u64> {
     let turns = [
         0,
@@ -90,8 +93,8 @@ pub fn product<A: Copy, B: Copy>(left: &[A], right: &[B]) -> Vec<(A, B)> {
     left.iter().flat_map(row).collect()
 }
 
-/// Operand pairs: each boundary value with each, random pairs, and random values beside themselves, since two that are drawn alone
-/// almost never meet.
+/// Operand pairs: each boundary value with each, random pairs, and random values beside themselves,
+/// since two that are drawn alone almost never meet.
 pub fn operand_pairs(random: &mut Random, count: usize) -> Vec<(u64, u64)> {
     let mut pairs = product(&boundaries(), &boundaries());
     for _ in 0..count / 8 {
@@ -140,9 +143,8 @@ impl Tally {
         count.differ += 1;
         if count.differ <= 4 {
             let module = self.module;
-            println!(
-                "DIFFERS {module}::{function} of {inputs:x?}: library {ours:x?}, {judge} {theirs:x?}"
-            );
+            println!("DIFFERS {module}::{function}: library {ours:x?}, {judge} {theirs:x?}");
+            println!("    on {inputs:x?}");
         }
     }
 

@@ -1,4 +1,5 @@
-//! decode.rs: every halfword, the words at the edges of every field, random words; sign extension from any number of bits.
+//! decode.rs: every halfword, the words at the edges of every field, random words; sign extension
+//! from any number of bits.
 
 use std::fmt::Debug;
 
@@ -15,6 +16,9 @@ use crate::door;
 type Row<Ours, Original, R> = (&'static str, fn(&Ours) -> R, fn(&Original) -> R);
 type Word<R> = Row<OurWord, OriginalWord, R>;
 type Half<R> = Row<OurHalf, OriginalHalf, R>;
+
+/// What makes the library's value and the original's of an input.
+type Makers<A, Ours, Original> = (fn(A) -> Ours, fn(A) -> Original);
 
 const WORD_U32: [Word<u32>; 5] = [
     ("opcode", OurWord::opcode, OriginalWord::opcode),
@@ -87,13 +91,13 @@ pub fn compare(seed: u64) -> Tally {
 fn each<A: Copy + Debug, Ours, Original, R: PartialEq + Debug>(
     tally: &mut Tally,
     inputs: &[A],
-    (wrap, wrap_original): (fn(A) -> Ours, fn(A) -> Original),
+    (make, make_original): Makers<A, Ours, Original>,
     rows: &[Row<Ours, Original, R>],
 ) {
     for &(name, ours, original) in rows {
         tally.calls(name, inputs.len());
         for &input in inputs {
-            let (answer, expected) = (ours(&wrap(input)), original(&wrap_original(input)));
+            let (answer, expected) = (ours(&make(input)), original(&make_original(input)));
             if answer != expected {
                 tally.differ(name, input, answer, "original", expected);
             }
@@ -101,8 +105,8 @@ fn each<A: Copy + Debug, Ours, Original, R: PartialEq + Debug>(
     }
 }
 
-/// Every run of one bits and every pair of one bits, and their complements: among them each field alone at its greatest with
-/// the rest 0, and at 0 with the rest ones.
+/// Every run of one bits and every pair of one bits, and their complements: among them each field
+/// alone at its greatest with the rest 0, and at 0 with the rest ones.
 fn edge_words() -> Vec<u32> {
     let mut words = Vec::new();
     for low in 0..32 {

@@ -105,11 +105,13 @@ impl Call {
         }
     }
 
-    /// Who says what the answer must be, and the answer. The original makes the call, unless it would panic.
+    /// Who says what the answer must be, and the answer. The original makes the call, unless it
+    /// would panic.
     fn expected(self, gpr: &mut Original) -> (&'static str, Answer) {
         match self {
             _ if self.refused() => ("rule", Err(Refusal::Register)),
-            // No call writes an x0 other than 0, but a host may lend one. The original would hand it out here; ours reads 0.
+            // No call writes an x0 other than 0, but a host may lend one. The original would hand
+            // it out here; ours reads 0.
             Self::ReadMasked(reg) if reg % 32 == 0 && gpr.oracle_words()[0] != 0 => {
                 ("rule", Ok(Some(0)))
             }
@@ -125,8 +127,8 @@ fn register(random: &mut Random) -> usize {
     }
 }
 
-/// A register number over 31: just over it, one that would pass if its upper bits were lost, or one so near the top that adding
-/// to it runs over.
+/// A register number over 31: just over it, one that would pass if its upper bits were lost, or one
+/// so near the top that adding to it runs over.
 fn refused(random: &mut Random) -> usize {
     let number = match random.below(3) {
         0 => 32 + random.below(9),
@@ -161,34 +163,26 @@ pub fn compare(seed: u64) -> Tally {
     for _ in 0..LONG_RUNS {
         let start = new(&mut tally, random.operand());
         run(&mut tally, start, every_register(value(&mut random)));
-        run(
-            &mut tally,
-            start,
-            (0..LONG).map(|_| Call::random(&mut random)),
-        );
+        run(&mut tally, start, any_calls(&mut random, LONG));
 
         let mut start = any_words(&mut random);
         start[0] = 0;
-        run(
-            &mut tally,
-            start,
-            (0..LONG).map(|_| Call::random(&mut random)),
-        );
+        run(&mut tally, start, any_calls(&mut random, LONG));
     }
 
     // Any words, x0 not 0 among them. Short, since the first masked write sets x0 to 0.
     for _ in 0..SHORT_RUNS {
         let start = any_words(&mut random);
         run(&mut tally, start, reads_of_x0());
-        run(
-            &mut tally,
-            start,
-            (0..SHORT).map(|_| Call::random(&mut random)),
-        );
+        run(&mut tally, start, any_calls(&mut random, SHORT));
         refusals(&mut tally, &mut random, start);
     }
 
     tally
+}
+
+fn any_calls(random: &mut Random, count: usize) -> impl Iterator<Item = Call> {
+    (0..count).map(|_| Call::random(random))
 }
 
 /// Each call on each register number that it may take, and on some that it refuses.
@@ -251,7 +245,7 @@ fn changed(before: &Words, after: &Words) -> Vec<(usize, u64)> {
     (0..65).filter(differs).map(|i| (i, after[i])).collect()
 }
 
-/// At the door itself: a refused read leaves `out` as it was. (That the words stay is seen in `run`.)
+/// At the door itself: a refused read leaves `out` as it was. That the words stay is seen in `run`.
 fn refusals(tally: &mut Tally, random: &mut Random, words: Words) {
     let reg = refused(random);
     let untouched = random.word();

@@ -1,6 +1,8 @@
-//! Calls the library and the original on the same inputs and compares what they answer and what they leave behind.
+//! Calls the library and the original on the same inputs and compares what they answer and what
+//! they leave behind.
 //!
-//! `../compare` builds and runs this. One module for each of the original's; the next joins as a `mod` line and a line of `main`.
+//! `../compare` builds and runs this. One module for each of the original's; the next joins as a
+//! `mod` line and a line of `main`.
 
 mod common;
 mod decode;

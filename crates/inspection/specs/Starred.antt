@@ -1,0 +1,46 @@
+-- The starred cases of document 01's inspection list: what the definitions give, beside what the list asks, and the theorem
+-- that these are equal in every case. Assumes nothing.
+use mathlib.Core.Path.{_≡_, refl}
+use mathlib.Core.List.{List, [], _∷_, map}
+use Prim.Native.Nat.{ℕ, suc, _-_, _^_}
+use lib.IntN.{ℤ, pos, negℤ}
+use Rattle.answers.specs.Told.{Told, done}
+use Rattle.answers.specs.Bits.{bits}
+use Rattle.decode.specs.Immediates.{immI, immB, immJ}
+use Rattle.extensions.specs.Multiply.{mulhOf, mulhuOf, mulhsuOf}
+use Rattle.extensions.specs.Divide.{divOf, remuOf}
+
+pub record Case : Type 0 where
+  pub found : Told ℤ
+  pub asked : Told ℤ
+
+-- a number, and an integer, where nothing is refused
+abbrev number : ℕ → ℕ → Case
+number f a = record { found = done (pos f); asked = done (pos a) }
+
+abbrev integer : ℤ → ℤ → Case
+integer f a = record { found = done f; asked = done a }
+
+abbrev pub starred : List Case
+starred =
+    -- 0xFFF00093: opcode 0x13, rd 1, rs1 0, I-immediate -1
+    number (bits 6 0 0xfff0_0093) 0x13
+    ∷ number (bits 11 7 0xfff0_0093) 1
+    ∷ number (bits 19 15 0xfff0_0093) 0
+    ∷ integer (immI 0xfff0_0093) (negℤ (pos 1))
+    -- 0xFE000EE3: B-immediate -4; 0x80000063: -4096
+    ∷ integer (immB 0xfe00_0ee3) (negℤ (pos 4))
+    ∷ integer (immB 0x8000_0063) (negℤ (pos 4096))
+    -- 0x8000006F: J-immediate -1048576
+    ∷ integer (immJ 0x8000_006f) (negℤ (pos 1048576))
+    -- of 2^64-1 twice: mulhu 2^64-2, mulh 0, mulhsu 2^64-1
+    ∷ number (mulhuOf (2 ^ 64 - 1) (2 ^ 64 - 1)) (2 ^ 64 - 2)
+    ∷ number (mulhOf (2 ^ 64 - 1) (2 ^ 64 - 1)) 0
+    ∷ number (mulhsuOf (2 ^ 64 - 1) (2 ^ 64 - 1)) (2 ^ 64 - 1)
+    -- divw of 0x180000000 by 0xFFFFFFFF: 0xFFFFFFFF80000000; remuw of 0x80000000 by 0: the same
+    ∷ number (divOf 32 0x1_8000_0000 0xffff_ffff) 0xffff_ffff_8000_0000
+    ∷ number (remuOf 32 0x8000_0000 0) 0xffff_ffff_8000_0000
+    ∷ []
+
+pub as-asked : map (λ (c : Case). c .found) starred ≡ map (λ (c : Case). c .asked) starred
+as-asked = refl
