@@ -23,26 +23,26 @@ pub enum Refusal {
     /// A CSR address that the CSR file does not list.
     CsrAddress = 2,
     /// SATP from S-mode while mstatus.TVM is set.
-    CsrPrivilege = 3,
+    SatpTrapped = 3,
     /// A memory whose length is no power of two, or under 8, or over 2^30.
     MemoryLength = 4,
     /// An access that begins in the memory and ends outside it.
-    OutOfMemory = 5,
+    AccessRange = 5,
     /// A load of bytes that does not fit into the memory.
     LoadRange = 6,
     /// Sign extension from 0 or from more than 64 bits.
-    SignExtension = 7,
+    ExtensionWidth = 7,
 }
 
 impl Refusal {
     const ALL: [Self; 7] = [
         Self::Register,
         Self::CsrAddress,
-        Self::CsrPrivilege,
+        Self::SatpTrapped,
         Self::MemoryLength,
-        Self::OutOfMemory,
+        Self::AccessRange,
         Self::LoadRange,
-        Self::SignExtension,
+        Self::ExtensionWidth,
     ];
 
     /// The number by which the library gives this refusal.
@@ -56,11 +56,11 @@ impl fmt::Display for Refusal {
         f.write_str(match self {
             Self::Register => "register number over 31",
             Self::CsrAddress => "no such CSR address",
-            Self::CsrPrivilege => "SATP is closed to S-mode by TVM",
+            Self::SatpTrapped => "SATP is closed to S-mode by TVM",
             Self::MemoryLength => "memory length is no power of two from 8 to 2^30",
-            Self::OutOfMemory => "access runs over the end of the memory",
+            Self::AccessRange => "access runs over the end of the memory",
             Self::LoadRange => "load range exceeds the memory",
-            Self::SignExtension => "sign extension from 0 or over 64 bits",
+            Self::ExtensionWidth => "sign extension from 0 or over 64 bits",
         })
     }
 }

@@ -13,7 +13,7 @@
 //! assert_eq!((half.quadrant(), half.rd(), half.rs2()), (2, 10, 11));
 //!
 //! assert_eq!(sign_extend(0xFFF, 12), Ok(-1));
-//! assert_eq!(sign_extend(0xFFF, 0), Err(Refusal::SignExtension));
+//! assert_eq!(sign_extend(0xFFF, 0), Err(Refusal::ExtensionWidth));
 //! ```
 
 use crate::answers::{Refusal, done};
