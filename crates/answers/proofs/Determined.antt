@@ -4,6 +4,7 @@ use mathlib.Core.Path.{_≡_, refl, sym, ap, _∙_}
 use mathlib.Core.Bool.{cond}
 use mathlib.Core.List.{List, [], _∷_}
 use Prim.Native.Nat.{ℕ}
+use native.Mathlib.Omega.{arith}
 use lib.Dec.{eqb}
 use Rattle.answers.specs.Refusals.{numberOf}
 use Rattle.answers.specs.Told.{Told}
@@ -66,3 +67,14 @@ acceptance-undone (Acceptance′.Refused MemoryLength) = refl
 acceptance-undone (Acceptance′.Refused AccessRange) = refl
 acceptance-undone (Acceptance′.Refused LoadRange) = refl
 acceptance-undone (Acceptance′.Refused ExtensionWidth) = refl
+
+-- ---- a refusal is told apart from what is done
+
+pub number-positive : (e : Refusal) → numberOf e ≡ 0 → ⊥
+number-positive Register p = omega arith
+number-positive CsrAddress p = omega arith
+number-positive SatpTrapped p = omega arith
+number-positive MemoryLength p = omega arith
+number-positive AccessRange p = omega arith
+number-positive LoadRange p = omega arith
+number-positive ExtensionWidth p = omega arith

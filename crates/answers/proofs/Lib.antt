@@ -3,3 +3,4 @@ pub mod Orders
 pub mod Signs
 pub mod Shifts
 pub mod Determined
+pub mod Tables
