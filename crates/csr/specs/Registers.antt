@@ -5,6 +5,7 @@ use lib.ListN.{getD, set, replicate}
 use Rattle.answers.specs.Told.{Told}
 use Rattle.csr_list.specs.List.{placeOf}
 use Rattle.csr.specs.Views.{readOf, writeOf}
+use Rattle.csr.specs.Interrupts.{pendingInterrupt}
 use Rattle.csr.specs.declared.PrivMode.{PrivMode}
 
 -- at reset: mstatus has UXL and SXL 2; misa is RV64 with A, C, D, F, I, M, S and U; all else 0
@@ -39,3 +40,8 @@ stored (v ∷ vs) ws i = set ws i v
 
 abbrev pub writeRegister : List ℕ → ℕ → ℕ → PrivMode → List ℕ
 writeRegister ws a value mode = stored (newWord ws a value mode .values) ws (placeOf a .word)
+
+-- ---- interrupt choice
+
+abbrev pub pendingIn : List ℕ → PrivMode → Told ℕ
+pendingIn ws mode = pendingInterrupt (getD ws 12 0) (getD ws 4 0) (midelegIn ws) (mstatusIn ws) mode

@@ -4,12 +4,11 @@ ghost use mathlib.Core.Bool.{cond, not, _&&_};
 ghost use Prim.Native.Nat.{_-_, _<_};
 ghost use lib.Count.{leadingZeros};
 ghost use lib.Dec.{eqb};
-ghost use lib.ListN.{getD};
 ghost use Rattle.answers.specs.Answers.{reading, acceptance};
 ghost use Rattle.answers.specs.Told.{accepted};
 ghost use Rattle.csr.specs.Modes.{modeOf, isU, isS, isM};
 ghost use Rattle.csr.specs.Views.{masked, status, ruleOf, withSd, shown, taken, allowed, readOf, writeOf};
-ghost use Rattle.csr.specs.Registers.{resetWords, readRegister, newWord, wrote, writeRegister};
+ghost use Rattle.csr.specs.Registers.{resetWords, readRegister, newWord, wrote, writeRegister, pendingIn};
 ghost use Rattle.csr.specs.Interrupts.{pending, pendingInterrupt, forM, forS, chosen, isSet};
 use answers::Acceptance;
 use answers::Reading;
@@ -53,87 +52,168 @@ pub struct Written {
 impl Csr {
     // M-mode addresses
     pub const MSTATUS: u32 = 0x300;
+
     pub const MISA: u32 = 0x301;
+
     pub const MEDELEG: u32 = 0x302;
+
     pub const MIDELEG: u32 = 0x303;
+
     pub const MIE: u32 = 0x304;
+
     pub const MTVEC: u32 = 0x305;
+
     pub const MCOUNTEREN: u32 = 0x306;
+
     pub const MCOUNTINHIBIT: u32 = 0x320;
+
     pub const MSCRATCH: u32 = 0x340;
+
     pub const MEPC: u32 = 0x341;
+
     pub const MCAUSE: u32 = 0x342;
+
     pub const MTVAL: u32 = 0x343;
+
     pub const MIP: u32 = 0x344;
+
     pub const MENVCFG: u32 = 0x30A;
+
     pub const MCONFIGPTR: u32 = 0xF15;
 
     // S-mode addresses
     pub const SSTATUS: u32 = 0x100;
+
     pub const SIE: u32 = 0x104;
+
     pub const STVEC: u32 = 0x105;
+
     pub const SCOUNTEREN: u32 = 0x106;
+
     pub const SENVCFG: u32 = 0x10A;
+
     pub const SSCRATCH: u32 = 0x140;
+
     pub const SEPC: u32 = 0x141;
+
     pub const SCAUSE: u32 = 0x142;
+
     pub const STVAL: u32 = 0x143;
+
     pub const SIP: u32 = 0x144;
+
     pub const SATP: u32 = 0x180;
 
     // Counters
     pub const CYCLE: u32 = 0xC00;
+
     pub const TIME: u32 = 0xC01;
+
     pub const INSTRET: u32 = 0xC02;
+
     pub const MCYCLE: u32 = 0xB00;
+
     pub const MINSTRET: u32 = 0xB02;
 
     // Machine info
     pub const MVENDORID: u32 = 0xF11;
+
     pub const MARCHID: u32 = 0xF12;
+
     pub const MIMPID: u32 = 0xF13;
+
     pub const MHARTID: u32 = 0xF14;
 
     // mstatus field masks for RV64
     pub const MSTATUS_SIE: u64 = 1 << 1;
+
     pub const MSTATUS_MIE: u64 = 1 << 3;
+
     pub const MSTATUS_SPIE: u64 = 1 << 5;
+
     pub const MSTATUS_UBE: u64 = 1 << 6;
+
     pub const MSTATUS_MPIE: u64 = 1 << 7;
+
     pub const MSTATUS_SPP: u64 = 1 << 8;
+
     pub const MSTATUS_VS: u64 = 3 << 9;
+
     pub const MSTATUS_MPP: u64 = 3 << 11;
+
     pub const MSTATUS_FS: u64 = 3 << 13;
+
     pub const MSTATUS_XS: u64 = 3 << 15;
+
     pub const MSTATUS_MPRV: u64 = 1 << 17;
+
     pub const MSTATUS_SUM: u64 = 1 << 18;
+
     pub const MSTATUS_MXR: u64 = 1 << 19;
+
     pub const MSTATUS_TVM: u64 = 1 << 20;
+
     pub const MSTATUS_TW: u64 = 1 << 21;
+
     pub const MSTATUS_TSR: u64 = 1 << 22;
+
     pub const MSTATUS_UXL: u64 = 3 << 32;
+
     pub const MSTATUS_SXL: u64 = 3 << 34;
+
     pub const MSTATUS_SBE: u64 = 1 << 36;
+
     pub const MSTATUS_MBE: u64 = 1 << 37;
+
     pub const MSTATUS_SD: u64 = 1 << 63;
 
     // mip / mie bits
     pub const MIP_SSIP: u64 = 1 << 1;
+
     pub const MIP_MSIP: u64 = 1 << 3;
+
     pub const MIP_STIP: u64 = 1 << 5;
+
     pub const MIP_MTIP: u64 = 1 << 7;
+
     pub const MIP_SEIP: u64 = 1 << 9;
+
     pub const MIP_MEIP: u64 = 1 << 11;
 
     // What a write of mstatus keeps, and what it takes
     pub const MSTATUS_PRESERVED: u64 = Csr::MSTATUS_UXL | Csr::MSTATUS_SXL;
-    pub const MSTATUS_WRITE_MASK: u64 = Csr::MSTATUS_SIE | Csr::MSTATUS_MIE | Csr::MSTATUS_SPIE | Csr::MSTATUS_UBE | Csr::MSTATUS_MPIE | Csr::MSTATUS_SPP | Csr::MSTATUS_VS | Csr::MSTATUS_MPP | Csr::MSTATUS_FS | Csr::MSTATUS_XS | Csr::MSTATUS_MPRV | Csr::MSTATUS_SUM | Csr::MSTATUS_MXR | Csr::MSTATUS_TVM | Csr::MSTATUS_TW | Csr::MSTATUS_TSR;
+
+    pub const MSTATUS_WRITE_MASK: u64 = Csr::MSTATUS_SIE
+        | Csr::MSTATUS_MIE
+        | Csr::MSTATUS_SPIE
+        | Csr::MSTATUS_UBE
+        | Csr::MSTATUS_MPIE
+        | Csr::MSTATUS_SPP
+        | Csr::MSTATUS_VS
+        | Csr::MSTATUS_MPP
+        | Csr::MSTATUS_FS
+        | Csr::MSTATUS_XS
+        | Csr::MSTATUS_MPRV
+        | Csr::MSTATUS_SUM
+        | Csr::MSTATUS_MXR
+        | Csr::MSTATUS_TVM
+        | Csr::MSTATUS_TW
+        | Csr::MSTATUS_TSR;
 
     // What S sees of it
-    pub const SSTATUS_MASK: u64 = Csr::MSTATUS_SIE | Csr::MSTATUS_SPIE | Csr::MSTATUS_UBE | Csr::MSTATUS_SPP | Csr::MSTATUS_VS | Csr::MSTATUS_FS | Csr::MSTATUS_XS | Csr::MSTATUS_SUM | Csr::MSTATUS_MXR;
+    pub const SSTATUS_MASK: u64 = Csr::MSTATUS_SIE
+        | Csr::MSTATUS_SPIE
+        | Csr::MSTATUS_UBE
+        | Csr::MSTATUS_SPP
+        | Csr::MSTATUS_VS
+        | Csr::MSTATUS_FS
+        | Csr::MSTATUS_XS
+        | Csr::MSTATUS_SUM
+        | Csr::MSTATUS_MXR;
 
     // Bits of mip that software writes in M-mode, and bits writable via SIP (S-mode software interrupt)
     pub const MIP_WRITABLE: u64 = Csr::MIP_MSIP | Csr::MIP_SSIP | Csr::MIP_STIP;
+
     pub const SIP_WRITABLE: u64 = Csr::MIP_SSIP;
 
     pub fn new() -> Self
@@ -151,7 +231,13 @@ impl Csr {
         let place = csr_list::place_of(address);
         let at = place.word;
         let view = place.view;
-        read_word(view, self.words[at], self.words[3], self.words[0], priv_mode)
+        read_word(
+            view,
+            self.words[at],
+            self.words[3],
+            self.words[0],
+            priv_mode,
+        )
     }
 
     pub fn write_register(self, address: u32, value: u64, priv_mode: PrivMode) -> Written
@@ -160,7 +246,14 @@ impl Csr {
         let place = csr_list::place_of(address);
         let at = place.word;
         let view = place.view;
-        match write_word(view, self.words[at], value, self.words[3], self.words[0], priv_mode) {
+        match write_word(
+            view,
+            self.words[at],
+            value,
+            self.words[3],
+            self.words[0],
+            priv_mode,
+        ) {
             Reading::Value(word) => {
                 let mut next = self;
                 next.words[at] = word;
@@ -177,9 +270,15 @@ impl Csr {
     }
 
     pub fn pending_interrupt(self, priv_mode: PrivMode) -> Pending
-        ensures { λ r. ⌜ pending r ≡ pendingInterrupt (getD (self .words) 12 0) (getD (self .words) 4 0) (getD (self .words) 3 0) (getD (self .words) 0 0) «priv_mode» ⌝ }
+        ensures { λ r. ⌜ pending r ≡ pendingIn (self .words) «priv_mode» ⌝ }
     {
-        choose_interrupt(self.words[12], self.words[4], self.words[3], self.words[0], priv_mode)
+        choose_interrupt(
+            self.words[12],
+            self.words[4],
+            self.words[3],
+            self.words[0],
+            priv_mode,
+        )
     }
 }
 
@@ -295,11 +394,7 @@ fn read_mstatus(value: u64) -> u64
 fn seen(dirty: bool, word: u64) -> u64
     ensures { λ r. ⌜ r ≡ cond dirty (withSd word) word ⌝ }
 {
-    if dirty {
-        read_mstatus(word)
-    } else {
-        word
-    }
+    if dirty { read_mstatus(word) } else { word }
 }
 
 fn show(rule: Rule, word: u64) -> u64
@@ -403,11 +498,7 @@ pub fn choose_interrupt(mip: u64, mie: u64, mideleg: u64, mstatus: u64, mode: Pr
 fn ready(group: u64, enabled: bool) -> bool
     ensures { λ r. ⌜ r ≡ (not (eqb group 0) && enabled) ⌝ }
 {
-    if group == 0 {
-        false
-    } else {
-        enabled
-    }
+    if group == 0 { false } else { enabled }
 }
 
 fn open_to_m(mstatus: u64, mode: PrivMode) -> bool

@@ -25,9 +25,9 @@ found-inside n (r ∷ rs) z t a =
     in let w : r .word + (r .last - r .first) < n = ltb→lt _ _ (both .0)
     in by-test (leb (r .first) a && leb a (r .last))
     (λ e.
-      let hit = and-yes (leb (r .first) a) (leb a (r .last)) (subst⁻¹ T e tt)
-      in let h : a ≤ r .last = leb-yes (hit .1)
-      in rw e (omega arith))
+    let hit = and-yes (leb (r .first) a) (leb a (r .last)) (subst⁻¹ T e tt)
+    in let h : a ≤ r .last = leb-yes (hit .1)
+    in rw e (omega arith))
     (λ e. rw e (found-inside n rs z (both .1) a))
 
 pub in-file : (a : ℕ) → placeOf a .word < 136

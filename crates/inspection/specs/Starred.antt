@@ -2,13 +2,16 @@
 -- that these are equal in every case. Assumes nothing.
 use mathlib.Core.Path.{_≡_, refl}
 use mathlib.Core.List.{List, [], _∷_, map}
-use Prim.Native.Nat.{ℕ, suc, _-_, _^_}
+use Prim.Native.Nat.{ℕ, suc, _+_, _-_, _^_}
+use lib.Count.{leadingZeros}
 use lib.IntN.{ℤ, pos, negℤ}
 use Rattle.answers.specs.Told.{Told, done}
 use Rattle.answers.specs.Bits.{bits}
 use Rattle.decode.specs.Immediates.{immI, immB, immJ}
 use Rattle.extensions.specs.Multiply.{mulhOf, mulhuOf, mulhsuOf}
 use Rattle.extensions.specs.Divide.{divOf, remuOf}
+use Rattle.csr.specs.Interrupts.{chosen, pendingInterrupt}
+use Rattle.csr.specs.declared.PrivMode.the-variants.{U}
 
 pub record Case : Type 0 where
   pub found : Told ℤ
@@ -20,6 +23,10 @@ number f a = record { found = done (pos f); asked = done (pos a) }
 
 abbrev integer : ℤ → ℤ → Case
 integer f a = record { found = done f; asked = done a }
+
+-- what a call tells, of numbers
+abbrev naturals : Told ℕ → Told ℕ → Case
+naturals f a = record { found = record { number = f .number; values = map pos (f .values) }; asked = record { number = a .number; values = map pos (a .values) } }
 
 abbrev pub starred : List Case
 starred =
@@ -40,7 +47,11 @@ starred =
     -- divw of 0x180000000 by 0xFFFFFFFF: 0xFFFFFFFF80000000; remuw of 0x80000000 by 0: the same
     ∷ number (divOf 32 0x1_8000_0000 0xffff_ffff) 0xffff_ffff_8000_0000
     ∷ number (remuOf 32 0x8000_0000 0) 0xffff_ffff_8000_0000
+    -- pending and enabled, in U, none delegated: bits 13 and 1 give 1; bits 12 and 13 give 13
+    ∷ naturals (pendingInterrupt (2 ^ 13 + 2 ^ 1) (2 ^ 13 + 2 ^ 1) 0 0xa_0000_0000 U) (done 1)
+    ∷ naturals (pendingInterrupt (2 ^ 12 + 2 ^ 13) (2 ^ 12 + 2 ^ 13) 0 0xa_0000_0000 U) (done 13)
     ∷ []
 
 pub as-asked : map (λ (c : Case). c .found) starred ≡ map (λ (c : Case). c .asked) starred
+unfolding chosen leadingZeros
 as-asked = refl

@@ -1,7 +1,11 @@
 // Runs the cases of document 01's inspection list that carry no star, and writes each with what is asked and what is found.
 ghost use mathlib.Core.Path.{_≡_};
 ghost use Rattle.answers.specs.Bits.{low};
+use answers::Reading;
 use answers::Refusal;
+use csr::Csr;
+use csr::Pending;
+use csr::PrivMode;
 use decode::Instruction;
 use gpr::Gpr;
 use gpr::Reading32;
@@ -10,6 +14,8 @@ use libc::STDOUT_FILENO;
 fn main() {
     immediates();
     atomics();
+    status();
+    interrupts();
     floats();
 }
 
@@ -35,6 +41,34 @@ fn atomics() {
         0xFFFF_FFFF,
         unsigned.1 as u64,
     );
+}
+
+fn status() {
+    let written = Csr::new().write_register(Csr::MSTATUS, 0xFFFF_FFFF_FFFF_FFFF, PrivMode::M);
+    let file = written.csr;
+    answered(
+        b"mstatus written all ones",
+        0x8000_000A_007F_FFEA,
+        file.read_register(Csr::MSTATUS, PrivMode::M),
+    );
+    answered(
+        b"sstatus then",
+        0xDE762,
+        file.read_register(Csr::SSTATUS, PrivMode::M),
+    );
+}
+
+fn interrupts() {
+    let bit = Csr::MIP_STIP;
+    let mstatus = 0xA_0000_0000;
+    match csr::choose_interrupt(bit, bit, bit, mstatus, PrivMode::M) {
+        Pending::Bit(n) => say(b"delegated bit 5 in M, where none is asked", 0, n),
+        Pending::Nothing => tell(b"delegated bit 5 in M: asked none, found none\n"),
+    }
+    match csr::choose_interrupt(bit, bit, bit, mstatus, PrivMode::U) {
+        Pending::Bit(n) => say(b"delegated bit 5 in U", 5, n),
+        Pending::Nothing => tell(b"delegated bit 5 in U: asked 0x5, found none\n"),
+    }
 }
 
 fn floats() {
@@ -65,6 +99,17 @@ fn say(case: &[u8], asked: u64, found: u64) {
     io::write_all(STDOUT_FILENO, b", found 0x");
     io::print_hex(STDOUT_FILENO, found, 1);
     io::write_all(STDOUT_FILENO, b"\n");
+}
+
+fn tell(line: &[u8]) {
+    io::write_all(STDOUT_FILENO, line);
+}
+
+fn answered(case: &[u8], asked: u64, answer: Reading) {
+    match answer {
+        Reading::Value(found) => say(case, asked, found),
+        Reading::Refused(refusal) => refused(case, refusal),
+    }
 }
 
 fn refused(case: &[u8], refusal: Refusal) {

@@ -27,7 +27,6 @@ s-test c =
     let a = c .before .before .before .before .before .args
     in ap (λ (b : Bool). not (eqb (bitAnd (bitAnd (a .mip) (a .mie)) (a .mideleg)) 0) && b) (sym (c .before .open-to-s .ensures)) ∙ sym (c .ready2 .ensures)
 
-
 open-to-m-requires : tie.Need-open-to-m-requires
 open-to-m-requires c κs = search needs
 

@@ -50,8 +50,8 @@ returns c =
     in let ws = a .t1 .words
     in let x = c .before .word .given
     in let t : done (x .0 .0) ≡ newWord ws (a .address) (a .value) (a .priv-mode) =
-        ap reading (sym (x .1)) ∙ c .before .before .before .write-word .ensures
-        ∙ ap (λ (q : Place). writeOf (q .view) (getD ws (q .word) 0) (a .value) (getD ws 3 0) (getD ws 0 0) (a .priv-mode)) (p .place-of .ensures .0)
+    ap reading (sym (x .1)) ∙ c .before .before .before .write-word .ensures
+    ∙ ap (λ (q : Place). writeOf (q .view) (getD ws (q .word) 0) (a .value) (getD ws 3 0) (getD ws 0 0) (a .priv-mode)) (p .place-of .ensures .0)
     in (ap wrote t, ap (λ (q : Place). set ws (q .word) (x .0 .0)) (p .place-of .ensures .0) ∙ ap (λ (u : Told ℕ). stored (u .values) ws (placeOf (a .address) .word)) t)
 
 returns-2 : tie.Need-returns-2
@@ -61,8 +61,8 @@ returns-2 c =
     in let ws = a .t1 .words
     in let x = c .before .refusal .given
     in let t : refused (numberOf (x .0 .0)) ≡ newWord ws (a .address) (a .value) (a .priv-mode) =
-        ap reading (sym (x .1)) ∙ c .before .before .before .write-word .ensures
-        ∙ ap (λ (q : Place). writeOf (q .view) (getD ws (q .word) 0) (a .value) (getD ws 3 0) (getD ws 0 0) (a .priv-mode)) (p .place-of .ensures .0)
+    ap reading (sym (x .1)) ∙ c .before .before .before .write-word .ensures
+    ∙ ap (λ (q : Place). writeOf (q .view) (getD ws (q .word) 0) (a .value) (getD ws 3 0) (getD ws 0 0) (a .priv-mode)) (p .place-of .ensures .0)
     in (ap wrote t, ap (λ (u : Told ℕ). stored (u .values) ws (placeOf (a .address) .word)) t)
 
 pub write-register-spec : {M : Type 1} → statement M

@@ -1,0 +1,70 @@
+-- `host::control::rv_csr_pending` meets its contract: what the choice tells. Assumes nothing.
+use mathlib.Core.Path.{_≡_, sym, ap, _∙_}
+use Prim.Native.Nat.{ℕ}
+use Rattle.answers.specs.Told.{Told, done, accepted}
+use Rattle.answers.proofs.Gives.{found-value, found-nothing}
+use Rattle.csr.specs.Modes.{modeOf}
+use Rattle.csr.specs.Interrupts.{pending}
+use Rattle.csr.specs.Registers.{pendingIn}
+use borrow.Author.Needs.{needs}
+use Rattle.host.proofs.control.rv_csr_pending.Statement.{statement}
+use Rattle.host.proofs.control.rv_csr_pending.Tie as tie
+
+from-bits-requires : tie.Need-from-bits-requires
+from-bits-requires c κs = search needs
+
+element-copy-out-choose-interrupt : tie.Need-element-copy-out-choose-interrupt
+element-copy-out-choose-interrupt c = search needs
+
+element-copy-out-choose-interrupt-2 : tie.Need-element-copy-out-choose-interrupt-2
+element-copy-out-choose-interrupt-2 c = search needs
+
+element-copy-out-choose-interrupt-3 : tie.Need-element-copy-out-choose-interrupt-3
+element-copy-out-choose-interrupt-3 c = search needs
+
+element-copy-out-choose-interrupt-4 : tie.Need-element-copy-out-choose-interrupt-4
+element-copy-out-choose-interrupt-4 c = search needs
+
+choose-interrupt-requires : tie.Need-choose-interrupt-requires
+choose-interrupt-requires c κs = search needs
+
+enum-known-bit : tie.Need-enum-known-bit
+enum-known-bit c = search needs
+
+enum-told : tie.Need-enum-told
+enum-told c = search needs
+
+returns : tie.Need-returns
+returns c =
+    let w = c .before .before .before
+    in let m = w .before .before .before .before .before
+    in let a = m .before .args
+    in let ws = a .csr .now
+    in let t : done (c .before .bit .given .0 .0) ≡ pendingIn ws (modeOf (a .privilege)) =
+    ap pending (sym (c .before .bit .given .1)) ∙ w .choose-interrupt .ensures ∙ ap (pendingIn ws) (m .from-bits .ensures)
+    in found-value (a .out .now) t
+
+returns-2 : tie.Need-returns-2
+returns-2 c =
+    let w = c .before .before
+    in let m = w .before .before .before .before .before
+    in let a = m .before .args
+    in let ws = a .csr .now
+    in let t : _≡_ {A = Told ℕ} accepted (pendingIn ws (modeOf (a .privilege))) =
+    ap pending (sym (c .enum-told .given .1)) ∙ w .choose-interrupt .ensures ∙ ap (pendingIn ws) (m .from-bits .ensures)
+    in found-nothing (a .out .now) t
+
+pub rv-csr-pending-spec : {M : Type 1} → statement M
+rv-csr-pending-spec =
+    tie.close
+    (tie.spec
+    from-bits-requires
+    element-copy-out-choose-interrupt
+    element-copy-out-choose-interrupt-2
+    element-copy-out-choose-interrupt-3
+    element-copy-out-choose-interrupt-4
+    choose-interrupt-requires
+    enum-known-bit
+    enum-told
+    returns
+    returns-2)

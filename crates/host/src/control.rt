@@ -1,0 +1,70 @@
+// The CSR file, as 136 words in the order of the fields of csr.rs. A call touches the word that its address names, mideleg and mstatus.
+ghost use mathlib.Core.Path.{_≡_};
+ghost use Rattle.answers.specs.Gave.{Gave, Found};
+ghost use Rattle.csr.specs.Modes.{modeOf};
+ghost use Rattle.csr.specs.Registers.{resetWords, readRegister, newWord, writeRegister, pendingIn};
+use answers::Reading;
+use csr::Pending;
+use csr::PrivMode;
+
+#[no_mangle]
+pub extern "C" fn rv_csr_new(csr: &mut [u64; 136])
+    ensures { λ r. ⌜ now (csr .exit) ≡ resetWords ⌝ }
+{
+    *csr = [0u64; 136];
+    csr[0] = 0xA_0000_0000;
+    csr[1] = 0x8000_0000_0014_112D;
+}
+
+#[no_mangle]
+pub extern "C" fn rv_csr_read(csr: &[u64; 136], address: u32, privilege: u64, out: &mut u64) -> u32
+    ensures { λ r. ⌜ Gave (readRegister (now (csr .entry)) address (modeOf privilege)) (now (out .entry)) r (now (out .exit)) ⌝ }
+{
+    let place = csr_list::place_of(address);
+    let at = place.word;
+    let view = place.view;
+    let mode = PrivMode::from_bits(privilege);
+    match csr::read_word(view, csr[at], csr[3], csr[0], mode) {
+        Reading::Value(value) => {
+            *out = value;
+            0
+        }
+        Reading::Refused(refusal) => refusal.number(),
+    }
+}
+
+#[no_mangle]
+pub extern "C" fn rv_csr_write(
+    csr: &mut [u64; 136],
+    address: u32,
+    value: u64,
+    privilege: u64,
+) -> u32
+    ensures { λ r. ⌜ (r ≡ newWord (now (csr .entry)) address value (modeOf privilege) .number) × (now (csr .exit) ≡ writeRegister (now (csr .entry)) address value (modeOf privilege)) ⌝ }
+{
+    let place = csr_list::place_of(address);
+    let at = place.word;
+    let view = place.view;
+    let mode = PrivMode::from_bits(privilege);
+    match csr::write_word(view, csr[at], value, csr[3], csr[0], mode) {
+        Reading::Value(word) => {
+            csr[at] = word;
+            0
+        }
+        Reading::Refused(refusal) => refusal.number(),
+    }
+}
+
+#[no_mangle]
+pub extern "C" fn rv_csr_pending(csr: &[u64; 136], privilege: u64, out: &mut u64) -> bool
+    ensures { λ r. ⌜ Found (pendingIn (now (csr .entry)) (modeOf privilege)) (now (out .entry)) r (now (out .exit)) ⌝ }
+{
+    let mode = PrivMode::from_bits(privilege);
+    match csr::choose_interrupt(csr[12], csr[4], csr[3], csr[0], mode) {
+        Pending::Bit(bit) => {
+            *out = bit;
+            true
+        }
+        Pending::Nothing => false,
+    }
+}
