@@ -1,6 +1,8 @@
-//! How a host uses the library: decode a word, calculate, keep registers, and handle a refusal.
+//! How a host uses the library: decode a word, calculate, keep registers and CSRs, choose an
+//! interrupt, and handle a refusal.
 
 use leavnnjar::Refusal;
+use leavnnjar::csr::{Csr, MIDELEG, MIE, MIP, MIP_SSIP, MIP_STIP, MSTATUS, PrivMode, SSTATUS};
 use leavnnjar::decode::Instruction;
 use leavnnjar::extensions::{amomax_w, div, mulhu};
 use leavnnjar::gpr::Gpr;
@@ -8,7 +10,8 @@ use leavnnjar::gpr::Gpr;
 fn main() -> Result<(), Refusal> {
     decode();
     arithmetic();
-    registers()
+    registers()?;
+    csrs()
 }
 
 fn decode() {
@@ -71,5 +74,45 @@ fn registers() -> Result<(), Refusal> {
         ),
     }
     println!("  registers unchanged      {}", regs == before);
+    Ok(())
+}
+
+fn csrs() -> Result<(), Refusal> {
+    println!("CSR file");
+    let mut csr = Csr::new();
+
+    // Not every bit may be written, and bit 63 says that one of FS, XS and VS is dirty.
+    csr.write_register(MSTATUS, u64::MAX, PrivMode::M)?;
+    println!(
+        "  mstatus after all ones   {:#x}",
+        csr.read_register(MSTATUS, PrivMode::M)?
+    );
+    println!(
+        "  sstatus then             {:#x}",
+        csr.read_register(SSTATUS, PrivMode::S)?
+    );
+
+    // The software and the timer interrupt of S-mode, both left to S-mode.
+    let both = MIP_SSIP | MIP_STIP;
+    csr.write_register(MIP, both, PrivMode::M)?;
+    csr.write_register(MIE, both, PrivMode::M)?;
+    csr.write_register(MIDELEG, both, PrivMode::M)?;
+    for mode in [PrivMode::U, PrivMode::M] {
+        match csr.pending_interrupt(mode) {
+            Some(bit) => println!("  interrupt in {mode:?}           {bit}"),
+            None => println!("  interrupt in {mode:?}           none"),
+        }
+    }
+
+    // There is no CSR 0x7ff.
+    let before = csr.clone();
+    match csr.write_register(0x7FF, 7, PrivMode::M) {
+        Ok(()) => println!("  write to 0x7ff           done"),
+        Err(refusal) => println!(
+            "  write to 0x7ff           refused, no. {}: {refusal}",
+            refusal.number()
+        ),
+    }
+    println!("  CSR file unchanged       {}", csr == before);
     Ok(())
 }

@@ -80,4 +80,11 @@ unsafe extern "C" {
     pub safe fn rv_gpr_write_f(regs: &mut [u64; 65], reg: usize, value: u64) -> u32;
     pub safe fn rv_gpr_read_f32(regs: &[u64; 65], reg: usize, out: &mut u32) -> u32;
     pub safe fn rv_gpr_write_f32(regs: &mut [u64; 65], reg: usize, value: u32) -> u32;
+
+    // CSR file: the original's fields in their order. Of a privilege the low two bits count.
+    pub safe fn rv_csr_new(csr: &mut [u64; 136]);
+    pub safe fn rv_csr_read(csr: &[u64; 136], address: u32, privilege: u64, out: &mut u64) -> u32;
+    pub safe fn rv_csr_write(csr: &mut [u64; 136], address: u32, value: u64, privilege: u64)
+    -> u32;
+    pub safe fn rv_csr_pending(csr: &[u64; 136], privilege: u64, out: &mut u64) -> bool;
 }

@@ -26,6 +26,7 @@
 #![warn(missing_docs)]
 
 mod answers;
+pub mod csr;
 pub mod decode;
 mod door;
 pub mod extensions;

@@ -123,7 +123,7 @@ fn sign_extend(tally: &mut Tally, value: i64, bits: u32) {
     // The original panics where we refuse, so it is not called there.
     let refused = bits == 0 || bits > 64;
     let (judge, expected) = match refused {
-        true => ("rule", Err(Refusal::SignExtension)),
+        true => ("rule", Err(Refusal::ExtensionWidth)),
         false => ("original", Ok(original::sign_extend(value, bits))),
     };
 
@@ -138,7 +138,7 @@ fn sign_extend(tally: &mut Tally, value: i64, bits: u32) {
         let mut out = UNTOUCHED;
         tally.calls("sign_extend", 1);
         let answer = door::rv_sign_extend(value, bits, &mut out);
-        let expected = (Refusal::SignExtension.number(), UNTOUCHED);
+        let expected = (Refusal::ExtensionWidth.number(), UNTOUCHED);
         if (answer, out) != expected {
             tally.differ(
                 "sign_extend",

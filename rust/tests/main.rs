@@ -5,6 +5,7 @@
 //! `mod` line and a line of `main`.
 
 mod common;
+mod csr;
 mod decode;
 mod extensions;
 mod gpr;
@@ -22,5 +23,6 @@ fn main() -> ExitCode {
         decode::compare(seed),
         extensions::compare(seed),
         gpr::compare(seed),
+        csr::compare(seed),
     ])
 }
