@@ -83,6 +83,17 @@ make_library() {
     fi
 }
 
+# The folder of the original's files, in $original. Empty where there is none.
+find_original() {
+    local place
+    original=
+    for place in "${LEAVNNJAR_ORIGINAL:-}" "$top/../shared/docs/src"; do
+        if [ -z "$original" ] && [ -e "$place/crates/riscv-core/src/decode.rs" ]; then
+            original=$place/crates/riscv-core/src
+        fi
+    done
+}
+
 build_rlib() { # NAME SOURCE FLAGS..
     local name=$1 source=$2
     shift 2

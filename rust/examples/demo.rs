@@ -1,17 +1,23 @@
 //! How a host uses the library: decode a word, calculate, keep registers and CSRs, choose an
-//! interrupt, and handle a refusal.
+//! interrupt, translate addresses, and handle a refusal.
+
+use std::error::Error;
 
 use leavnnjar::Refusal;
 use leavnnjar::csr::{Csr, MIDELEG, MIE, MIP, MIP_SSIP, MIP_STIP, MSTATUS, PrivMode, SSTATUS};
 use leavnnjar::decode::Instruction;
 use leavnnjar::extensions::{amomax_w, div, mulhu};
 use leavnnjar::gpr::Gpr;
+use leavnnjar::mmu::Mmu;
+use leavnnjar::system_bus::FlatMemory;
 
-fn main() -> Result<(), Refusal> {
+fn main() -> Result<(), Box<dyn Error>> {
     decode();
     arithmetic();
     registers()?;
-    csrs()
+    csrs()?;
+    translation()?;
+    Ok(())
 }
 
 fn decode() {
@@ -114,5 +120,56 @@ fn csrs() -> Result<(), Refusal> {
         ),
     }
     println!("  CSR file unchanged       {}", csr == before);
+    Ok(())
+}
+
+fn translation() -> Result<(), Refusal> {
+    println!("memory and translation");
+    // Memory is the host's own; a call borrows it. Here three tables map page 0 to page 5.
+    let mut bytes = [0; 16384];
+    let mut memory = FlatMemory::new(&mut bytes);
+    memory.write_doubleword(0x1000, 0x801)?;
+    memory.write_doubleword(0x2000, 0xC01)?;
+    memory.write_doubleword(0x3000, 0x14CF)?;
+
+    let satp = 0x8000_0000_0000_0001;
+    let mut mmu = Mmu::new();
+    let load = |mmu: &mut Mmu, memory: &[u8]| match mmu.translate_load(0x123, satp, memory) {
+        Ok(to) => format!("{:#x}, {} entries read", to.address, to.reads),
+        Err(error) => error.to_string(),
+    };
+    println!(
+        "  load from 0x123          {}",
+        load(&mut mmu, memory.bytes())
+    );
+    println!(
+        "  again                    {}",
+        load(&mut mmu, memory.bytes())
+    );
+
+    // Now page 0 is mapped to page 6. The cache does not hear of it: a host flushes.
+    memory.write_doubleword(0x3000, 0x18CF)?;
+    println!(
+        "  entry changed            {}",
+        load(&mut mmu, memory.bytes())
+    );
+    mmu.flush();
+    println!(
+        "  after a flush            {}",
+        load(&mut mmu, memory.bytes())
+    );
+
+    // Now it is not mapped.
+    memory.write_doubleword(0x3000, 0)?;
+    mmu.flush();
+    println!(
+        "  entry cleared, flushed   {}",
+        load(&mut mmu, memory.bytes())
+    );
+
+    // 12 is no power of two.
+    let before = mmu.clone();
+    println!("  memory of 12 bytes       {}", load(&mut mmu, &[0; 12]));
+    println!("  state unchanged          {}", mmu == before);
     Ok(())
 }

@@ -1,8 +1,8 @@
 //! The original, unchanged: `../compare` copies its files to target/oracle and appends to the
 //! copies the *.append.rs of this folder.
 //!
-//! A module joins when the library exports it. system_bus.rs and mmu.rs name
-//! `crate::syscall_trace` and `crate::perf`, for which small stand-ins belong in this folder.
+//! mmu.rs and system_bus.rs name `crate::perf` and `crate::syscall_trace`, which have much else in
+//! them: small stand-ins are in this folder.
 
 #[path = "../../target/oracle/csr.rs"]
 pub mod csr;
@@ -12,5 +12,11 @@ pub mod decode;
 pub mod extensions;
 #[path = "../../target/oracle/gpr.rs"]
 pub mod gpr;
+#[path = "../../target/oracle/mmu.rs"]
+pub mod mmu;
+mod perf;
+pub mod syscall_trace;
+#[path = "../../target/oracle/system_bus.rs"]
+pub mod system_bus;
 #[path = "../../target/oracle/trap.rs"]
 pub mod trap;

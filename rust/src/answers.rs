@@ -68,11 +68,17 @@ impl fmt::Display for Refusal {
 impl std::error::Error for Refusal {}
 
 /// What the library's answer says: done, or refused.
+#[inline]
 pub(crate) fn done(answer: u32) -> Result<(), Refusal> {
-    if answer == 0 {
-        return Ok(());
+    match answer {
+        0 => Ok(()),
+        _ => Err(refusal(answer)),
     }
+}
 
+/// The refusal of this number. Apart from `done`, so that what is done costs a host one test.
+#[cold]
+pub(crate) fn refusal(answer: u32) -> Refusal {
     let refusal = Refusal::ALL.into_iter().find(|r| r.number() == answer);
-    Err(refusal.unwrap_or_else(|| panic!("the library never answers {answer} here")))
+    refusal.unwrap_or_else(|| panic!("the library never answers {answer} here"))
 }

@@ -1,7 +1,8 @@
 //! What the static library exports, in the original's order.
 //!
 //! A number passes as itself, and a lent array or number as one pointer, which is how `extern "C"`
-//! passes a Rust reference.
+//! passes a Rust reference. A lent slice passes as pointer and length: those functions are declared
+//! at the end.
 
 // Sound, and every function safe to call, because the library's functions are proved for any input:
 // they return, they touch nothing but what is lent here, and they write only what is lent as
@@ -87,4 +88,115 @@ unsafe extern "C" {
     pub safe fn rv_csr_write(csr: &mut [u64; 136], address: u32, value: u64, privilege: u64)
     -> u32;
     pub safe fn rv_csr_pending(csr: &[u64; 136], privilege: u64, out: &mut u64) -> bool;
+
+    // Translation: epoch, load shortcut, store shortcut, and 512 slots of four words.
+    pub safe fn rv_mmu_new(mmu: &mut [u64; 2055]);
+    pub safe fn rv_flush(mmu: &mut [u64; 2055]);
+}
+
+/// The functions that are lent guest memory. As pointer and length a caller could lend what is not
+/// his, so these are not safe; each has a form below that takes the slice.
+mod lent {
+    type Memory = *const u8;
+    type MemoryMut = *mut u8;
+
+    unsafe extern "C" {
+        // Memory.
+        pub fn rv_read_byte(m: Memory, length: usize, address: u64, out: &mut u64) -> u32;
+        pub fn rv_read_halfword(m: Memory, length: usize, address: u64, out: &mut u64) -> u32;
+        pub fn rv_read_word(m: Memory, length: usize, address: u64, out: &mut u64) -> u32;
+        pub fn rv_read_doubleword(m: Memory, length: usize, address: u64, out: &mut u64) -> u32;
+        pub fn rv_write_byte(m: MemoryMut, length: usize, address: u64, value: u8) -> u32;
+        pub fn rv_write_halfword(m: MemoryMut, length: usize, address: u64, value: u16) -> u32;
+        pub fn rv_write_word(m: MemoryMut, length: usize, address: u64, value: u32) -> u32;
+        pub fn rv_write_doubleword(m: MemoryMut, length: usize, address: u64, value: u64) -> u32;
+        pub fn rv_load_at(
+            m: MemoryMut,
+            length: usize,
+            offset: usize,
+            bytes: *const u8,
+            count: usize,
+        ) -> u32;
+
+        // Translation. `out` is the address and the read count.
+        pub fn rv_translate_fetch(
+            mmu: &mut [u64; 2055],
+            m: Memory,
+            length: usize,
+            address: u64,
+            satp: u64,
+            out: &mut [u64; 2],
+        ) -> u32;
+        pub fn rv_translate_load(
+            mmu: &mut [u64; 2055],
+            m: Memory,
+            length: usize,
+            address: u64,
+            satp: u64,
+            out: &mut [u64; 2],
+        ) -> u32;
+        pub fn rv_translate_store(
+            mmu: &mut [u64; 2055],
+            m: Memory,
+            length: usize,
+            address: u64,
+            satp: u64,
+            out: &mut [u64; 2],
+        ) -> u32;
+        pub fn rv_translate_readable(
+            m: Memory,
+            length: usize,
+            address: u64,
+            satp: u64,
+            out: &mut [u64; 2],
+        ) -> u32;
+    }
+}
+
+/// The form of a function that takes slices. The arguments are written as the declaration has them.
+macro_rules! takes_slices {
+    ($(fn $name:ident($($parameter:ident: $type:ty),*) = ($($argument:expr),*);)*) => {
+        $(
+            #[inline]
+            pub fn $name($($parameter: $type),*) -> u32 {
+                // SAFETY: pointer and length are those of a slice that is borrowed until the call
+                // returns. The library is proved to touch no byte outside it, for any length and
+                // address; to write only through a pointer that comes from a `&mut` slice, which
+                // nothing else can see meanwhile; and to keep none.
+                unsafe { lent::$name($($argument),*) }
+            }
+        )*
+    };
+}
+
+takes_slices! {
+    fn rv_read_byte(memory: &[u8], address: u64, out: &mut u64)
+        = (memory.as_ptr(), memory.len(), address, out);
+    fn rv_read_halfword(memory: &[u8], address: u64, out: &mut u64)
+        = (memory.as_ptr(), memory.len(), address, out);
+    fn rv_read_word(memory: &[u8], address: u64, out: &mut u64)
+        = (memory.as_ptr(), memory.len(), address, out);
+    fn rv_read_doubleword(memory: &[u8], address: u64, out: &mut u64)
+        = (memory.as_ptr(), memory.len(), address, out);
+    fn rv_write_byte(memory: &mut [u8], address: u64, value: u8)
+        = (memory.as_mut_ptr(), memory.len(), address, value);
+    fn rv_write_halfword(memory: &mut [u8], address: u64, value: u16)
+        = (memory.as_mut_ptr(), memory.len(), address, value);
+    fn rv_write_word(memory: &mut [u8], address: u64, value: u32)
+        = (memory.as_mut_ptr(), memory.len(), address, value);
+    fn rv_write_doubleword(memory: &mut [u8], address: u64, value: u64)
+        = (memory.as_mut_ptr(), memory.len(), address, value);
+    fn rv_load_at(memory: &mut [u8], offset: usize, bytes: &[u8])
+        = (memory.as_mut_ptr(), memory.len(), offset, bytes.as_ptr(), bytes.len());
+    fn rv_translate_fetch(
+        mmu: &mut [u64; 2055], memory: &[u8], address: u64, satp: u64, out: &mut [u64; 2]
+    ) = (mmu, memory.as_ptr(), memory.len(), address, satp, out);
+    fn rv_translate_load(
+        mmu: &mut [u64; 2055], memory: &[u8], address: u64, satp: u64, out: &mut [u64; 2]
+    ) = (mmu, memory.as_ptr(), memory.len(), address, satp, out);
+    fn rv_translate_store(
+        mmu: &mut [u64; 2055], memory: &[u8], address: u64, satp: u64, out: &mut [u64; 2]
+    ) = (mmu, memory.as_ptr(), memory.len(), address, satp, out);
+    fn rv_translate_readable(memory: &[u8], address: u64, satp: u64, out: &mut [u64; 2])
+        = (memory.as_ptr(), memory.len(), address, satp, out);
 }

@@ -31,5 +31,7 @@ pub mod decode;
 mod door;
 pub mod extensions;
 pub mod gpr;
+pub mod mmu;
+pub mod system_bus;
 
 pub use answers::Refusal;

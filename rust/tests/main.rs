@@ -9,6 +9,8 @@ mod csr;
 mod decode;
 mod extensions;
 mod gpr;
+mod mmu;
+mod system_bus;
 
 // The wrapper hides `out` where a call is refused, so those calls are also made at the door itself.
 #[allow(dead_code)]
@@ -24,5 +26,7 @@ fn main() -> ExitCode {
         extensions::compare(seed),
         gpr::compare(seed),
         csr::compare(seed),
+        system_bus::compare(seed),
+        mmu::compare(seed),
     ])
 }

@@ -2,4 +2,6 @@
 pub mod arithmetic;
 pub mod control;
 pub mod fields;
+pub mod memory;
 pub mod registers;
+pub mod translation;

@@ -1,0 +1,280 @@
+//! Translation of addresses: the Sv39 walk, its cache of 512 slots, and a shortcut each for loads
+//! and stores.
+//!
+//! ```
+//! use leavnnjar::Refusal;
+//! use leavnnjar::mmu::{Mmu, MmuFault, Translation, TranslationError};
+//! use leavnnjar::system_bus::FlatMemory;
+//!
+//! // Three tables, at 0x1000, 0x2000 and 0x3000. The last maps page 0 to page 5.
+//! let satp = 0x8000_0000_0000_0001;
+//! let mut bytes = [0; 16384];
+//! let mut memory = FlatMemory::new(&mut bytes);
+//! memory.write_doubleword(0x1000, 0x801)?;
+//! memory.write_doubleword(0x2000, 0xC01)?;
+//! memory.write_doubleword(0x3000, 0x14CF)?;
+//!
+//! let mut mmu = Mmu::new();
+//! let walked = mmu.translate_load(0x123, satp, memory.bytes())?;
+//! assert_eq!(walked, Translation { address: 0x5123, reads: 3 });
+//!
+//! // Asked again, the tables are not read. So a change to them is not seen before a flush.
+//! memory.write_doubleword(0x3000, 0)?;
+//! let cached = mmu.translate_load(0x456, satp, memory.bytes())?;
+//! assert_eq!(cached, Translation { address: 0x5456, reads: 0 });
+//! mmu.flush();
+//! let gone = mmu.translate_load(0x456, satp, memory.bytes());
+//! let fault = MmuFault::LoadPageFault(0x456);
+//! assert_eq!(gone, Err(TranslationError::Fault { fault, reads: 3 }));
+//!
+//! // The length of the memory is looked at first, even where satp says that nothing is paged.
+//! let refused = mmu.translate_load(0x123, 0, &[0; 12]);
+//! assert_eq!(refused, Err(TranslationError::Refused(Refusal::MemoryLength)));
+//! # Ok::<(), TranslationError>(())
+//! ```
+//!
+//! A leaf further up maps a superpage, and must be aligned to it:
+//!
+//! ```
+//! use leavnnjar::mmu::{Mmu, MmuFault, Translation, TranslationError};
+//!
+//! let satp = 0x8000_0000_0000_0001;
+//! let mut memory = [0; 16384];
+//! memory[0x1000] = 0xCF;
+//! let mut mmu = Mmu::new();
+//! let last = mmu.translate_load(0x3FFF_FFFF, satp, &memory)?;
+//! assert_eq!(last, Translation { address: 0x3FFF_FFFF, reads: 1 });
+//! let fault = MmuFault::LoadPageFault(0x4000_0000);
+//! let beyond = mmu.translate_load(0x4000_0000, satp, &memory);
+//! assert_eq!(beyond, Err(TranslationError::Fault { fault, reads: 1 }));
+//!
+//! // Page 1 is no multiple of 2^18. And 0x401 is a pointer to its own table, three times.
+//! for (entry, reads) in [(0x4CF_u16, 1), (0x401, 3)] {
+//!     memory[0x1000..0x1002].copy_from_slice(&entry.to_le_bytes());
+//!     let fault = MmuFault::LoadPageFault(0);
+//!     let answer = Mmu::new().translate_load(0, satp, &memory);
+//!     assert_eq!(answer, Err(TranslationError::Fault { fault, reads }));
+//! }
+//! # Ok::<(), TranslationError>(())
+//! ```
+
+use std::fmt;
+
+use crate::answers::{Refusal, refusal};
+use crate::door;
+
+/// A translation that succeeded.
+#[derive(Clone, Copy, Debug, PartialEq, Eq)]
+pub struct Translation {
+    /// The address in memory, not yet taken modulo its length.
+    pub address: u64,
+    /// How many table entries were read: 0 from the cache or where nothing is paged, else 1 to 3.
+    pub reads: u64,
+}
+
+/// A page fault, with the address that was asked for.
+#[derive(Clone, Copy, Debug, PartialEq, Eq)]
+pub enum MmuFault {
+    /// A load has no page that it may read.
+    LoadPageFault(u64),
+    /// A store has no page that it may write.
+    StorePageFault(u64),
+    /// A fetch has no page that it may execute.
+    InstructionPageFault(u64),
+}
+
+impl MmuFault {
+    /// The code of the trap.
+    #[inline]
+    pub fn mcause(&self) -> u64 {
+        match self {
+            Self::InstructionPageFault(_) => 12,
+            Self::LoadPageFault(_) => 13,
+            Self::StorePageFault(_) => 15,
+        }
+    }
+
+    /// The value of the trap: the address that was asked for.
+    #[inline]
+    pub fn tval(&self) -> u64 {
+        match self {
+            Self::LoadPageFault(address)
+            | Self::StorePageFault(address)
+            | Self::InstructionPageFault(address) => *address,
+        }
+    }
+}
+
+/// Why there is no translation. Neither changes the state.
+#[derive(Clone, Copy, Debug, PartialEq, Eq)]
+pub enum TranslationError {
+    /// The call was refused: the length of the memory does not do.
+    Refused(Refusal),
+    /// The tables do not allow the access.
+    Fault {
+        /// The kind of fault, and the address that was asked for.
+        fault: MmuFault,
+        /// How many table entries were read, the one that it faulted on included.
+        reads: u64,
+    },
+}
+
+impl From<Refusal> for TranslationError {
+    fn from(refusal: Refusal) -> Self {
+        Self::Refused(refusal)
+    }
+}
+
+impl fmt::Display for TranslationError {
+    fn fmt(&self, f: &mut fmt::Formatter<'_>) -> fmt::Result {
+        let (kind, address, reads) = match self {
+            Self::Refused(refusal) => return refusal.fmt(f),
+            Self::Fault { fault, reads } => match fault {
+                MmuFault::LoadPageFault(address) => ("load", address, reads),
+                MmuFault::StorePageFault(address) => ("store", address, reads),
+                MmuFault::InstructionPageFault(address) => ("instruction", address, reads),
+            },
+        };
+        write!(f, "{kind} page fault at {address:#x} after {reads} reads")
+    }
+}
+
+impl std::error::Error for TranslationError {}
+
+/// The translation state of one hart: an epoch, two shortcuts and 512 slots.
+///
+/// The state knows nothing of the memory that it was filled from. A host that changes the tables,
+/// satp or the length of the memory calls [`Mmu::flush`].
+#[derive(Clone, Debug, PartialEq, Eq)]
+pub struct Mmu {
+    words: Box<[u64; 2055]>,
+}
+
+impl Default for Mmu {
+    fn default() -> Self {
+        Self::new()
+    }
+}
+
+impl Mmu {
+    /// The state at the start: epoch 1, nothing kept.
+    #[inline]
+    pub fn new() -> Self {
+        let mut words = Box::new([0; 2055]);
+        door::rv_mmu_new(&mut words);
+        Self { words }
+    }
+
+    /// The state that these words hold, in the order of [`Mmu::words`]. Any words will do.
+    #[inline]
+    pub fn from_words(words: [u64; 2055]) -> Self {
+        Self {
+            words: Box::new(words),
+        }
+    }
+
+    /// The whole state: the epoch; page, result page and satp of the load shortcut; the same of the
+    /// store shortcut; then 512 slots of tag, result page, leaf entry and epoch.
+    #[inline]
+    pub fn words(&self) -> &[u64; 2055] {
+        &self.words
+    }
+
+    /// The whole state, to be changed. Any words will do.
+    #[inline]
+    pub fn words_mut(&mut self) -> &mut [u64; 2055] {
+        &mut self.words
+    }
+
+    /// Forgets all that is kept.
+    ///
+    /// The slots stay, but their epoch is over. 2^32 - 1 flushes later it comes round.
+    #[inline]
+    pub fn flush(&mut self) {
+        door::rv_flush(&mut self.words);
+    }
+
+    /// Where an instruction at this address is fetched from.
+    #[inline]
+    pub fn translate_fetch(
+        &mut self,
+        address: u64,
+        satp: u64,
+        memory: &[u8],
+    ) -> Result<Translation, TranslationError> {
+        let mut out = [0; 2];
+        let answer = door::rv_translate_fetch(&mut self.words, memory, address, satp, &mut out);
+        translated(answer, out)
+    }
+
+    /// Where a load from this address goes, by a walk that neither uses nor changes a state.
+    #[inline]
+    pub fn translate_readable(
+        address: u64,
+        satp: u64,
+        memory: &[u8],
+    ) -> Result<Translation, TranslationError> {
+        let mut out = [0; 2];
+        let answer = door::rv_translate_readable(memory, address, satp, &mut out);
+        translated(answer, out)
+    }
+
+    /// Where a load from this address goes.
+    #[inline]
+    pub fn translate_load(
+        &mut self,
+        address: u64,
+        satp: u64,
+        memory: &[u8],
+    ) -> Result<Translation, TranslationError> {
+        let mut out = [0; 2];
+        let answer = door::rv_translate_load(&mut self.words, memory, address, satp, &mut out);
+        translated(answer, out)
+    }
+
+    /// Where a store to this address goes.
+    ///
+    /// The walk does not ask for D in the leaf entry, but a slot without it is not used: then only
+    /// the page of the last store is found without a walk.
+    ///
+    /// ```
+    /// use leavnnjar::mmu::Mmu;
+    ///
+    /// // Pages 0 and 1 are mapped to pages 5 and 6, both without D.
+    /// let satp = 0x8000_0000_0000_0001;
+    /// let mut memory = [0; 16384];
+    /// for (place, entry) in [(0x1000, 0x801), (0x2000, 0xC01), (0x3000, 0x144F), (0x3008, 0x184F)] {
+    ///     memory[place..place + 8].copy_from_slice(&u64::to_le_bytes(entry));
+    /// }
+    ///
+    /// let mut mmu = Mmu::new();
+    /// let reads = [0x123, 0x123, 0x1000, 0x123]
+    ///     .map(|address| mmu.translate_store(address, satp, &memory).unwrap().reads);
+    /// assert_eq!(reads, [3, 0, 3, 3]);
+    /// ```
+    #[inline]
+    pub fn translate_store(
+        &mut self,
+        address: u64,
+        satp: u64,
+        memory: &[u8],
+    ) -> Result<Translation, TranslationError> {
+        let mut out = [0; 2];
+        let answer = door::rv_translate_store(&mut self.words, memory, address, satp, &mut out);
+        translated(answer, out)
+    }
+}
+
+/// What the library's answer to a translation says. On a fault `out` has the address asked for.
+#[inline]
+fn translated(answer: u32, out: [u64; 2]) -> Result<Translation, TranslationError> {
+    let [address, reads] = out;
+    let fault = match answer {
+        0 => return Ok(Translation { address, reads }),
+        12 => MmuFault::InstructionPageFault(address),
+        13 => MmuFault::LoadPageFault(address),
+        15 => MmuFault::StorePageFault(address),
+        _ => return Err(refusal(answer).into()),
+    };
+    Err(TranslationError::Fault { fault, reads })
+}

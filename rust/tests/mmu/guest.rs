@@ -1,0 +1,193 @@
+//! Random guests: a memory full of table entries, and few enough pages and satps that the cache is
+//! hit, and fought over.
+
+use super::call::{Ask, Kind};
+use crate::common::Random;
+
+/// Page numbers in satp and in an entry have 44 bits.
+const PAGE_BITS: u64 = (1 << 44) - 1;
+
+pub struct Guest {
+    pub memory: Vec<u8>,
+    /// The first is asked for most; the others are near it, far from it, and unpaged.
+    satps: [u64; 4],
+    /// Virtual pages.
+    pages: Vec<u64>,
+}
+
+/// What happens next to a guest and its translation state.
+#[derive(Clone, Copy, Debug)]
+pub enum Event {
+    Ask(Ask),
+    /// Asked with a memory of a length that is refused.
+    Refused(Ask, usize),
+    Flush,
+    /// Eight bytes of memory, at a multiple of 8, are stored to.
+    Store(usize, u64),
+}
+
+impl Guest {
+    pub fn new(random: &mut Random, length: usize) -> Self {
+        let pages = pages(random);
+        let satps = satps(random);
+        let mut memory = vec![0; length];
+        for place in (0..length).step_by(8) {
+            let entry = entry(random, place as u64 >> 12);
+            memory[place..place + 8].copy_from_slice(&entry.to_le_bytes());
+        }
+        Self {
+            memory,
+            satps,
+            pages,
+        }
+    }
+
+    pub fn page(&self, random: &mut Random) -> u64 {
+        self.pages[random.below(self.pages.len() as u64) as usize]
+    }
+
+    pub fn satp(&self, random: &mut Random) -> u64 {
+        let which = match random.below(16) {
+            0..=10 => 0,
+            11..=12 => 1,
+            13..=14 => 2,
+            _ => 3,
+        };
+        self.satps[which]
+    }
+
+    pub fn ask(&self, random: &mut Random) -> Ask {
+        let kind = match random.below(16) {
+            0..=5 => Kind::Load,
+            6..=10 => Kind::Store,
+            11..=14 => Kind::Fetch,
+            _ => Kind::Readable,
+        };
+        Ask {
+            kind,
+            address: (self.page(random) << 12) | random.below(0x1000),
+            satp: self.satp(random),
+        }
+    }
+
+    /// `memory` is the guest's as it stands now: most stores go to an entry on some page's path.
+    pub fn event(&self, random: &mut Random, memory: &[u8]) -> Event {
+        match random.below(32) {
+            0 => Event::Flush,
+            1 => Event::Refused(self.ask(random), refused_length(random)),
+            2..=4 => self.store(random, memory),
+            _ => Event::Ask(self.ask(random)),
+        }
+    }
+
+    fn store(&self, random: &mut Random, memory: &[u8]) -> Event {
+        let path = path(memory, self.page(random) << 12, self.satps[0]);
+        let (place, old) = match random.below(4) {
+            0 => (random.below(memory.len() as u64 / 8) as usize * 8, 0),
+            _ => path[random.below(path.len() as u64) as usize],
+        };
+        let value = match random.below(4) {
+            0 => old ^ (1 << random.below(10)),
+            1 => old ^ (1 << random.below(64)),
+            _ => entry(random, place as u64 >> 12),
+        };
+        Event::Store(place, value)
+    }
+}
+
+/// The places in memory of the entries that a walk for this address reads, and what they hold.
+pub fn path(memory: &[u8], address: u64, satp: u64) -> Vec<(usize, u64)> {
+    let mut entries = Vec::with_capacity(3);
+    let mut table = satp & PAGE_BITS;
+    for level in [2, 1, 0] {
+        let index = (address >> (12 + 9 * level)) & 0x1FF;
+        let place = ((table * 4096 + index * 8) % memory.len() as u64) as usize;
+        let bytes = memory[place..place + 8].try_into().expect("eight bytes");
+        let entry = u64::from_le_bytes(bytes);
+        entries.push((place, entry));
+
+        let pointer = entry & 0b1011 == 1;
+        if !pointer {
+            break;
+        }
+        table = (entry >> 10) & PAGE_BITS;
+    }
+    entries
+}
+
+fn refused_length(random: &mut Random) -> usize {
+    const LENGTHS: [usize; 10] = [0, 1, 2, 4, 7, 9, 12, 24, 1000, 4095];
+    LENGTHS[random.below(10) as usize]
+}
+
+/// Pages beside each other, in one superpage, in one slot with other tags, and with the same 27 bits
+/// of which the walk makes its indexes.
+fn pages(random: &mut Random) -> Vec<u64> {
+    let first = match random.below(8) {
+        0 => 0,
+        1 => u64::MAX >> 12,
+        2 => random.below(512),
+        3 => random.word() >> 12,
+        _ => random.word() >> 37,
+    };
+    let step = 1 + random.below(3);
+    let mut pages = vec![
+        first,
+        first + step,
+        first ^ (step << 9),
+        first ^ (step << 18),
+        first ^ (step << 27),
+        first ^ (1 << random.below(52)),
+        random.word() >> 12,
+    ];
+    for page in &mut pages {
+        *page &= u64::MAX >> 12;
+    }
+    pages
+}
+
+fn satps(random: &mut Random) -> [u64; 4] {
+    let mode = match random.below(4) {
+        0 => 1 + random.below(15),
+        _ => 8,
+    };
+    let space = match random.below(2) {
+        0 => 0,
+        _ => random.below(1 << 16),
+    };
+    let root = match random.below(3) {
+        0 => random.word() & PAGE_BITS,
+        _ => random.below(16),
+    };
+    let first = (mode << 60) | (space << 44) | root;
+    let near = match random.below(3) {
+        0 => first ^ (1 << (44 + random.below(16))),
+        1 => (first & (u64::MAX >> 4)) | (random.below(16) << 60),
+        _ => first ^ (1 << random.below(44)),
+    };
+    [first, near, random.word(), first & (u64::MAX >> 4)]
+}
+
+/// A table entry: pointers, to their own table too; leaves, aligned and not; all mixes of flags, the
+/// upper bits often set.
+fn entry(random: &mut Random, own: u64) -> u64 {
+    let aligned = match random.below(8) {
+        0..=3 => 18,
+        4..=5 => 9,
+        _ => 0,
+    };
+    let (page, flags) = match random.below(16) {
+        0 => (own, 1),
+        1..=5 => (random.word() & PAGE_BITS, 1 | (random.word() & 0x3F4)),
+        6..=8 => (random.word() << aligned, 0xCF),
+        9..=12 => (random.word() << aligned, 0x3 | random.word()),
+        13 => (random.word() << aligned, 0x9 | random.word()),
+        14 => (random.word() << aligned, random.word()),
+        _ => (random.word(), random.word() & !1),
+    };
+    let upper = match random.below(4) {
+        0 => random.word() << 54,
+        _ => 0,
+    };
+    upper | ((page & PAGE_BITS) << 10) | (flags & 0x3FF)
+}

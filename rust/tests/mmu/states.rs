@@ -1,0 +1,97 @@
+//! Translation states to begin with.
+
+use super::Words;
+use super::guest::Guest;
+use crate::common::Random;
+
+const SLOTS: usize = 7;
+const LOAD: usize = 1;
+const STORE: usize = 4;
+
+/// What a call may look at besides memory: epoch, shortcuts, and the slot of the page.
+pub fn seen(words: &Words, page: u64) -> [u64; 11] {
+    let slot = slot(page);
+    let mut seen = [0; 11];
+    seen[..7].copy_from_slice(&words[..7]);
+    seen[7..].copy_from_slice(&words[slot..slot + 4]);
+    seen
+}
+
+/// Where the slot of a page begins.
+pub fn slot(page: u64) -> usize {
+    SLOTS + 4 * (page % 512) as usize
+}
+
+/// An epoch at which a flush does something else: the last ones before it comes round, and 0, which
+/// only a host can make.
+pub fn edge_epoch(random: &mut Random) -> u64 {
+    match random.below(4) {
+        0 => 0,
+        _ => u32::MAX as u64 - random.below(4),
+    }
+}
+
+/// Words that the original's state can hold, about this guest's pages: slots and shortcuts that hit,
+/// and others that miss in one part only.
+pub fn fitting(random: &mut Random, guest: &Guest) -> Words {
+    let epoch = match random.below(3) {
+        0 => edge_epoch(random),
+        1 => random.word() as u32 as u64,
+        _ => random.below(4),
+    };
+    let mut words = [0; 2055];
+    for four in words[SLOTS..].chunks_exact_mut(4) {
+        four.copy_from_slice(&[random.word(), 0, 0, epoch]);
+    }
+    words[0] = epoch;
+
+    for shortcut in [LOAD, STORE] {
+        let page = page_word(random, guest);
+        let satp = guest.satp(random);
+        words[shortcut..shortcut + 3].copy_from_slice(&[page, result(random), satp]);
+    }
+    for _ in 0..12 {
+        let page = page_word(random, guest);
+        let old = match random.below(4) {
+            0 => random.below(3),
+            1 => random.word() as u32 as u64,
+            _ => epoch,
+        };
+        let four = [page, result(random), random.word(), old];
+        words[slot(page)..][..4].copy_from_slice(&four);
+    }
+    words
+}
+
+/// Any words at all.
+pub fn any(random: &mut Random, guest: &Guest) -> Words {
+    let mut words = fitting(random, guest);
+    for _ in 0..8 {
+        let slot = slot(guest.page(random));
+        let place = match random.below(2) {
+            0 => random.below(SLOTS as u64) as usize,
+            _ => slot + random.below(4) as usize,
+        };
+        words[place] = random.operand();
+    }
+    words
+}
+
+/// A page as a word of the state: seldom one that no address has, 2^64 - 1 among them.
+fn page_word(random: &mut Random, guest: &Guest) -> u64 {
+    let page = guest.page(random);
+    match random.below(16) {
+        0 => page | (random.word() << 52),
+        1 => u64::MAX,
+        _ => page,
+    }
+}
+
+/// A result page. One of more than 52 bits, which only a host can make, loses the others when it is
+/// shifted.
+fn result(random: &mut Random) -> u64 {
+    match random.below(8) {
+        0 => random.word(),
+        _ => random.word() >> 20,
+    }
+}
