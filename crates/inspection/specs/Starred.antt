@@ -5,6 +5,8 @@ use mathlib.Core.List.{List, [], _∷_, map}
 use Prim.Native.Nat.{ℕ, suc, _+_, _-_, _^_}
 use lib.Count.{leadingZeros}
 use lib.IntN.{ℤ, pos, negℤ}
+use lib.ListN.{replicate}
+use lib.Seq.{sets}
 use Rattle.answers.specs.Told.{Told, done}
 use Rattle.answers.specs.Bits.{bits}
 use Rattle.decode.specs.Immediates.{immI, immB, immJ}
@@ -12,6 +14,12 @@ use Rattle.extensions.specs.Multiply.{mulhOf, mulhuOf, mulhsuOf}
 use Rattle.extensions.specs.Divide.{divOf, remuOf}
 use Rattle.csr.specs.Interrupts.{chosen, pendingInterrupt}
 use Rattle.csr.specs.declared.PrivMode.the-variants.{U}
+use Rattle.system_bus.specs.Bytes.{valueAt, bytesOf}
+use Rattle.system_bus.specs.Memory.{powerUpTo, usable}
+use Rattle.walk.specs.Entries.{valid, leaf, allows, aligned}
+use Rattle.walk.specs.Walk.{Memory, entry, indexAt, trail, judge}
+use Rattle.walk.specs.declared.Kind.the-variants.{Load}
+use Rattle.mmu.specs.Cache.{newMmu, callOf, unpaged, accepts, walk, count, serves, live, matches, quick, look, decide, slotAt, shortcutOf, outcome, translate, told}
 
 pub record Case : Type 0 where
   pub found : Told ℤ
@@ -27,6 +35,27 @@ integer f a = record { found = done f; asked = done a }
 -- what a call tells, of numbers
 abbrev naturals : Told ℕ → Told ℕ → Case
 naturals f a = record { found = record { number = f .number; values = map pos (f .values) }; asked = record { number = a .number; values = map pos (a .values) } }
+
+-- a load that is the first call on a new cache, the root table at 0x1000: the address or the fault's value, then the entries read
+abbrev load : Memory → ℕ → Told ℕ
+load m a = told 512 (newMmu 512) (callOf Load m a 0x8000_0000_0000_0001)
+
+abbrev answer : ℕ → ℕ → ℕ → Told ℕ
+answer number value reads = record { number = number; values = value ∷ reads ∷ [] }
+
+-- 16384 bytes, zero, and an entry put into them
+abbrev cleared : Memory
+cleared = replicate 16384 0
+
+abbrev put : Memory → ℕ → ℕ → Memory
+put m at e = sets m at (bytesOf 8 e)
+
+-- a leaf in the root table; a leaf behind two pointers
+abbrev oneLeaf : Memory
+oneLeaf = put cleared 0x1000 0xcf
+
+abbrev threeLevels : Memory
+threeLevels = put (put (put cleared 0x1000 0x801) 0x2000 0xc01) 0x3000 0x14cf
 
 abbrev pub starred : List Case
 starred =
@@ -50,8 +79,13 @@ starred =
     -- pending and enabled, in U, none delegated: bits 13 and 1 give 1; bits 12 and 13 give 13
     ∷ naturals (pendingInterrupt (2 ^ 13 + 2 ^ 1) (2 ^ 13 + 2 ^ 1) 0 0xa_0000_0000 U) (done 1)
     ∷ naturals (pendingInterrupt (2 ^ 12 + 2 ^ 13) (2 ^ 12 + 2 ^ 13) 0 0xa_0000_0000 U) (done 13)
+    -- 0xCF at 0x1000: a load of 0x3FFFFFFF gives it after 1 read; one of 0x40000000 faults
+    ∷ naturals (load oneLeaf 0x3fff_ffff) (answer 0 0x3fff_ffff 1)
+    ∷ naturals (load oneLeaf 0x4000_0000) (answer 13 0x4000_0000 1)
+    -- 0x801 at 0x1000, 0xC01 at 0x2000, 0x14CF at 0x3000: a load of 0x123 gives 0x5123 after 3 reads
+    ∷ naturals (load threeLevels 0x123) (answer 0 0x5123 3)
     ∷ []
 
 pub as-asked : map (λ (c : Case). c .found) starred ≡ map (λ (c : Case). c .asked) starred
-unfolding chosen leadingZeros
+unfolding chosen leadingZeros powerUpTo usable valueAt bytesOf valid leaf allows aligned entry indexAt trail judge newMmu unpaged accepts walk count serves live matches quick look decide slotAt shortcutOf outcome translate
 as-asked = refl

@@ -1,6 +1,7 @@
 // Runs the cases of document 01's inspection list that carry no star, and writes each with what is asked and what is found.
 ghost use mathlib.Core.Path.{_≡_};
 ghost use Rattle.answers.specs.Bits.{low};
+use answers::Acceptance;
 use answers::Reading;
 use answers::Refusal;
 use csr::Csr;
@@ -10,6 +11,9 @@ use decode::Instruction;
 use gpr::Gpr;
 use gpr::Reading32;
 use libc::STDOUT_FILENO;
+use mmu::Mmu;
+use mmu::Translated;
+use mmu::Translation;
 
 fn main() {
     immediates();
@@ -17,6 +21,9 @@ fn main() {
     status();
     interrupts();
     floats();
+    walks();
+    loads();
+    stores();
 }
 
 fn immediates() {
@@ -91,6 +98,72 @@ fn floats() {
     }
 }
 
+// The root table stands at 0x1000.
+const SATP: u64 = 0x8000_0000_0000_0001;
+
+// Each on a new cache.
+fn walks() {
+    let mut memory = [0; 16384];
+    put(&mut memory, 0x1000, 0x4CF);
+    let unaligned = Mmu::new().translate_load(&memory, 0, SATP);
+    translated(b"0x4CF at 0x1000, load of 0", 13, 0, 1, unaligned);
+    put(&mut memory, 0x1000, 0x401);
+    let circular = Mmu::new().translate_load(&memory, 0, SATP);
+    translated(b"0x401 at 0x1000, load of 0", 13, 0, 3, circular);
+}
+
+fn loads() {
+    let mut memory = [0; 16384];
+    put(&mut memory, 0x1000, 0x801);
+    put(&mut memory, 0x2000, 0xC01);
+    put(&mut memory, 0x3000, 0x14CF);
+    load_calls(&memory);
+}
+
+fn load_calls(memory: &[u8]) {
+    let first = Mmu::new().translate_load(memory, 0x123, SATP);
+    translated(b"0x14CF at 0x3000, load of 0x123", 0, 0x5123, 3, first);
+    let cache = first.mmu;
+    let again = cache.translate_load(memory, 0x123, SATP);
+    translated(b"load of 0x123 again", 0, 0x5123, 0, again);
+    let cache = again.mmu;
+    let emptied = cache.flush();
+    let walked = emptied.translate_load(memory, 0x123, SATP);
+    translated(b"load of 0x123 after a flush", 0, 0x5123, 3, walked);
+}
+
+fn stores() {
+    let mut memory = [0; 16384];
+    put(&mut memory, 0x1000, 0x801);
+    put(&mut memory, 0x2000, 0xC01);
+    put(&mut memory, 0x3000, 0x144F);
+    put(&mut memory, 0x3008, 0x184F);
+    store_calls(&memory);
+}
+
+// A leaf without D: the shortcut serves a store, the slot does not.
+fn store_calls(memory: &[u8]) {
+    let first = Mmu::new().translate_store(memory, 0x123, SATP);
+    translated(b"0x144F at 0x3000, store to 0x123", 0, 0x5123, 3, first);
+    let cache = first.mmu;
+    let again = cache.translate_store(memory, 0x123, SATP);
+    translated(b"store to 0x123 again", 0, 0x5123, 0, again);
+    let cache = again.mmu;
+    let other = cache.translate_store(memory, 0x1123, SATP);
+    translated(b"0x184F at 0x3008, store to 0x1123", 0, 0x6123, 3, other);
+    let cache = other.mmu;
+    let walked = cache.translate_store(memory, 0x123, SATP);
+    translated(b"store to 0x123 after that", 0, 0x5123, 3, walked);
+}
+
+// A page table entry.
+fn put(memory: &mut [u8], address: u64, entry: u64) {
+    match system_bus::write_doubleword(memory, address, entry) {
+        Acceptance::Done => (),
+        Acceptance::Refused(refusal) => refused(b"page table entry", refusal),
+    }
+}
+
 // One case, in a line.
 fn say(case: &[u8], asked: u64, found: u64) {
     io::write_all(STDOUT_FILENO, case);
@@ -110,6 +183,33 @@ fn answered(case: &[u8], asked: u64, answer: Reading) {
         Reading::Value(found) => say(case, asked, found),
         Reading::Refused(refusal) => refused(case, refusal),
     }
+}
+
+// A translation's number, 0 or the fault's; then the address, and the entries read.
+fn translated(case: &[u8], number: u64, value: u64, reads: u64, call: Translated) {
+    io::write_all(STDOUT_FILENO, case);
+    io::write_all(STDOUT_FILENO, b": asked ");
+    outcome(number, value, reads);
+    io::write_all(STDOUT_FILENO, b", found ");
+    let answer = call.answer;
+    match answer {
+        Translation::At { address, reads: n } => outcome(0, address, n),
+        Translation::Fault { fault, reads: n } => outcome(fault.mcause(), fault.tval(), n),
+        Translation::Refused(refusal) => {
+            io::write_all(STDOUT_FILENO, b"refusal, no. ");
+            io::print_decimal(STDOUT_FILENO, refusal.number() as u64);
+        }
+    }
+    io::write_all(STDOUT_FILENO, b"\n");
+}
+
+fn outcome(number: u64, value: u64, reads: u64) {
+    io::write_all(STDOUT_FILENO, b"no. ");
+    io::print_decimal(STDOUT_FILENO, number);
+    io::write_all(STDOUT_FILENO, b" 0x");
+    io::print_hex(STDOUT_FILENO, value, 1);
+    io::write_all(STDOUT_FILENO, b" reads ");
+    io::print_decimal(STDOUT_FILENO, reads);
 }
 
 fn refused(case: &[u8], refusal: Refusal) {

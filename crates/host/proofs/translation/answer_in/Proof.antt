@@ -32,7 +32,7 @@ returns c =
     let t = sym (c .before .before .answer .given .1)
     in record {
       number = ap (λ (x : Translation). translation x .number) t;
-      out = ap (λ (x : Translation). answeredOut (translation x .values) (c .before .before .before .before .args .out .now)) t
+      out = ap (λ (x : Translation). answeredOut (translation x .values) (c .before .before .before .before .args .out .now)) t;
     }
 
 returns-2 : tie.Need-returns-2
@@ -41,8 +41,8 @@ returns-2 c =
     in record {
       number = c .number-of .ensures ∙ ap (λ (x : Translation). translation x .number) t;
       out =
-        ap (λ (v : ℕ). v ∷ c .before .before .before .before .answer2 .given .0 .1 .0 ∷ []) (c .before .before .tval .ensures)
-        ∙ ap (λ (x : Translation). answeredOut (translation x .values) (c .before .before .before .before .before .before .args .out .now)) t
+          ap (λ (v : ℕ). v ∷ c .before .before .before .before .answer2 .given .0 .1 .0 ∷ []) (c .before .before .tval .ensures)
+          ∙ ap (λ (x : Translation). answeredOut (translation x .values) (c .before .before .before .before .before .before .args .out .now)) t;
     }
 
 returns-3 : tie.Need-returns-3

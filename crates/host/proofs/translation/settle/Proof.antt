@@ -55,7 +55,7 @@ returns c =
     in let t = sym (c .before .before .before .outcome .given .1)
     in record {
       answer = subst (λ (x : Outcome). Answered (translation (answerOf x)) (a .out .now) (c .answer-in .result) (c .answer-in .last .1 .0)) t (c .answer-in .ensures);
-      words = ap (wordsAfter (a .kind) (a .address) (a .satp) (a .mmu .now)) t
+      words = ap (wordsAfter (a .kind) (a .address) (a .satp) (a .mmu .now)) t;
     }
 
 returns-2 : tie.Need-returns-2
@@ -64,7 +64,7 @@ returns-2 c =
     in let t = sym (c .before .before .before .before .before .outcome2 .given .1)
     in record {
       answer = subst (λ (x : Outcome). Answered (translation (answerOf x)) (a .out .now) (c .answer-in2 .result) (c .answer-in2 .last .1 .0)) t (c .answer-in2 .ensures);
-      words = c .before .before .point .ensures ∙ ap (wordsAfter (a .kind) (a .address) (a .satp) (a .mmu .now)) t
+      words = c .before .before .point .ensures ∙ ap (wordsAfter (a .kind) (a .address) (a .satp) (a .mmu .now)) t;
     }
 
 returns-3 : tie.Need-returns-3
@@ -73,10 +73,10 @@ returns-3 c =
     in let t = sym (c .before .before .before .before .before .before .before .before .outcome3 .given .1)
     in record {
       answer = subst (λ (x : Outcome). Answered (translation (answerOf x)) (a .out .now) (c .answer-in3 .result) (c .answer-in3 .last .1 .0)) t (c .answer-in3 .ensures);
-      words = 
-        c .before .before .point2 .ensures
-        ∙ ap (λ (l : List ℕ). pointed (a .kind) l (a .address) (a .satp) (c .before .before .before .before .before .before .before .before .outcome3 .given .0 .1 .0 .0)) (c .before .before .before .before .put-slot .ensures)
-        ∙ ap (wordsAfter (a .kind) (a .address) (a .satp) (a .mmu .now)) t
+      words =
+          c .before .before .point2 .ensures
+          ∙ ap (λ (l : List ℕ). pointed (a .kind) l (a .address) (a .satp) (c .before .before .before .before .before .before .before .before .outcome3 .given .0 .1 .0 .0)) (c .before .before .before .before .put-slot .ensures)
+          ∙ ap (wordsAfter (a .kind) (a .address) (a .satp) (a .mmu .now)) t;
     }
 
 pub settle-spec : {M : Type 1} → statement M
