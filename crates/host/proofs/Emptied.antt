@@ -12,7 +12,7 @@ use Rattle.host.specs.Translation.{emptySlots, newWords}
 abbrev pub begun : ℕ → ℕ → List ℕ
 begun i n = (replicate 7 0 ++ emptySlots i) ++ replicate (n * 4) 0
 
-length-slots : (i : ℕ) → length (emptySlots i) ≡ i * 4
+pub length-slots : (i : ℕ) → length (emptySlots i) ≡ i * 4
 unfolding emptySlots
 length-slots zero = refl
 length-slots (suc i) = length-append (emptySlots i) (noPage ∷ 0 ∷ 0 ∷ 0 ∷ []) ∙ ap (λ (n : ℕ). n + 4) (length-slots i) ∙ omega arith
