@@ -1,4 +1,3 @@
 -- How the host's words hold what the crates' definitions speak of.
 pub mod Pairs
 pub mod Registers
-pub mod Translation
