@@ -22,7 +22,6 @@ fn main() {
     interrupts();
     floats();
     walks();
-    loads();
     stores();
 }
 
@@ -112,26 +111,6 @@ fn walks() {
     translated(b"0x401 at 0x1000, load of 0", 13, 0, 3, circular);
 }
 
-fn loads() {
-    let mut memory = [0; 16384];
-    put(&mut memory, 0x1000, 0x801);
-    put(&mut memory, 0x2000, 0xC01);
-    put(&mut memory, 0x3000, 0x14CF);
-    load_calls(&memory);
-}
-
-fn load_calls(memory: &[u8]) {
-    let first = Mmu::new().translate_load(memory, 0x123, SATP);
-    translated(b"0x14CF at 0x3000, load of 0x123", 0, 0x5123, 3, first);
-    let cache = first.mmu;
-    let again = cache.translate_load(memory, 0x123, SATP);
-    translated(b"load of 0x123 again", 0, 0x5123, 0, again);
-    let cache = again.mmu;
-    let emptied = cache.flush();
-    let walked = emptied.translate_load(memory, 0x123, SATP);
-    translated(b"load of 0x123 after a flush", 0, 0x5123, 3, walked);
-}
-
 fn stores() {
     let mut memory = [0; 16384];
     put(&mut memory, 0x1000, 0x801);
@@ -149,8 +128,8 @@ fn store_calls(memory: &[u8]) {
     let again = cache.translate_store(memory, 0x123, SATP);
     translated(b"store to 0x123 again", 0, 0x5123, 0, again);
     let cache = again.mmu;
-    let other = cache.translate_store(memory, 0x1123, SATP);
-    translated(b"0x184F at 0x3008, store to 0x1123", 0, 0x6123, 3, other);
+    let other = cache.translate_store(memory, 0x1000, SATP);
+    translated(b"0x184F at 0x3008, store to 0x1000", 0, 0x6000, 3, other);
     let cache = other.mmu;
     let walked = cache.translate_store(memory, 0x123, SATP);
     translated(b"store to 0x123 after that", 0, 0x5123, 3, walked);

@@ -13,13 +13,13 @@ use lib.Seq.{getD-set-same}
 use Rattle.answers.specs.Told.{Told, done}
 use Rattle.answers.proofs.Orders.{by-test}
 use Rattle.walk.specs.Entries.{permits, allows}
-use Rattle.walk.specs.Walk.{Reached, found, lost, judge, trailOf}
+use Rattle.walk.specs.Walk.{Reached, found, lost, judge, trailOf, Each}
 use Rattle.walk.specs.declared.Kind.{Kind}
 use Rattle.walk.specs.declared.Kind.the-variants.{Fetch, Load, Store}
 use Rattle.walk.specs.declared.Access.{Access}
 use Rattle.mmu.specs.Answers.{causeOf, faultOf, said, readsIn}
 use Rattle.mmu.specs.Cache.{slotOf, shortcutTo, emptySlot, newMmu, Call, pageOf, inFrame, unpaged, accepts, walk, count, servesKind, serves, live, matches, quickKind, quick, walkedTo, look, decide, answerOf, zeroSlot, slotAt, shortcutKind, shortcutOf, withShortcut, remember, fill, applied, outcome, translate, flush}
-use Rattle.mmu.specs.History.{Each, Event, flushed, called, looked, step, run, flushes, paged, since, SameSatp, SameLength, SameEntries, Undisturbed, heard, freshly}
+use Rattle.mmu.specs.History.{Event, flushed, called, looked, step, run, flushes, paged, since, SameSatp, SameLength, SameEntries, Undisturbed, heard, freshly}
 use Rattle.mmu.specs.declared.TlbEntry.{TlbEntry}
 use Rattle.mmu.specs.declared.Mmu.{Mmu}
 use Rattle.mmu.proofs.Tests.{and-left, and-right, false-true}

@@ -12,7 +12,7 @@ use lib.Dec.{eqb}
 use lib.ListN.{getD, set}
 use Rattle.answers.proofs.Orders.{by-test}
 use Rattle.walk.specs.Entries.{isW, isD, permits, allows, aligned}
-use Rattle.walk.specs.Walk.{Trail, target, Reached, found, lost, judge, trailOf, walkOf, levels, rootOf}
+use Rattle.walk.specs.Walk.{Trail, target, Reached, found, lost, judge, trailOf, walkOf, levels, rootOf, Each}
 use Rattle.walk.specs.declared.Kind.{Kind}
 use Rattle.walk.specs.declared.Kind.the-variants.{Fetch, Load, Store}
 use Rattle.walk.specs.declared.Access.{Access}
@@ -20,7 +20,7 @@ use Rattle.walk.specs.declared.Stop.{Stop}
 use Rattle.walk.specs.declared.Stop.the-variants.{Leaf, Nowhere}
 use Rattle.walk.proofs.Agree.{trail-agree}
 use Rattle.mmu.specs.Cache.{virt, phys, noPage, slotOf, shortcutTo, Call, pageOf, inFrame, unpaged, accepts, walk, count, servesKind, serves, live, matches, quickKind, quick, walkedTo, look, decide, answerOf, zeroSlot, slotAt, shortcutKind, shortcutOf, withShortcut, remember, fill, applied, outcome, translate, nextEpoch, forget, flush}
-use Rattle.mmu.specs.History.{Each, Event, flushed, called, looked, step, run, flushes, paged, since, SameSatp, SameLength, SameEntries}
+use Rattle.mmu.specs.History.{Event, flushed, called, looked, step, run, flushes, paged, since, SameSatp, SameLength, SameEntries}
 use Rattle.mmu.specs.declared.TlbEntry.{TlbEntry}
 use Rattle.mmu.specs.declared.Shortcut.{Shortcut}
 use Rattle.mmu.specs.declared.Mmu.{Mmu}

@@ -5,7 +5,7 @@ use mathlib.Core.List.{List, [], _∷_}
 use Prim.Native.Nat.{ℕ, zero, suc, _-_, _^_, _<_}
 use lib.ListN.{length}
 use Rattle.answers.specs.Told.{Told, done}
-use Rattle.walk.specs.Walk.{Memory, Place, entry, trailOf, Reached, found, lost}
+use Rattle.walk.specs.Walk.{Memory, Place, entry, trailOf, Reached, found, lost, Each}
 use Rattle.mmu.specs.Answers.{causeOf, tvalOf, faultOf}
 use Rattle.mmu.specs.Cache.{Call, unpaged, accepts, walk, translate, flush}
 use Rattle.mmu.specs.declared.Mmu.{Mmu}
@@ -45,11 +45,6 @@ since cs [] = cs
 since cs (flushed ∷ h) = since [] h
 since cs (called c ∷ h) = since (cond (paged c) (c ∷ cs) cs) h
 since cs (looked ∷ h) = since cs h
-
--- a statement holds of each element
-abbrev pub Each : {A : Type 0} → (A → Type 0) → List A → Type 0
-Each P [] = Unit {0}
-Each P (x ∷ xs) = P x × Each P xs
 
 -- the table entries that a fresh walk reads now
 abbrev pub readsOf : Call → List Place

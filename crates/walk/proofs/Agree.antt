@@ -7,14 +7,9 @@ use native.Mathlib.Nat.{add-comm}
 use lib.ListN.{length}
 use lib.Pow.{shr-shr}
 use Rattle.walk.specs.Entries.{ppn, valid, leaf}
-use Rattle.walk.specs.Walk.{Memory, Place, place, entry, offsetBits, indexAt, Trail, stopped, visit, follow, trail, trailOf, walkOf, countOf, levels, rootOf, judge}
+use Rattle.walk.specs.Walk.{Memory, Place, place, entry, offsetBits, indexAt, Trail, stopped, visit, follow, trail, trailOf, walkOf, countOf, levels, rootOf, judge, Each}
 use Rattle.walk.specs.declared.Access.{Access}
 use Rattle.walk.specs.declared.Stop.the-variants.{Leaf, Nowhere}
-
--- a statement holds of each element
-abbrev pub Each : {A : Type 0} → (A → Type 0) → List A → Type 0
-Each P [] = Unit {0}
-Each P (x ∷ xs) = P x × Each P xs
 
 -- two memories have the same entry at a place
 abbrev pub Alike : Memory → Memory → Place → Type 0

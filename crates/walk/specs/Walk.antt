@@ -87,3 +87,8 @@ walkOf x m a satp = judge x a (trailOf m a satp .stop)
 -- how many entries it reads
 abbrev pub countOf : Memory → ℕ → ℕ → ℕ
 countOf m a satp = length (trailOf m a satp .reads)
+
+-- ---- of each entry read, or of each call made: a statement holds of each element
+abbrev pub Each : {A : Type 0} → (A → Type 0) → List A → Type 0
+Each P [] = Unit {0}
+Each P (x ∷ xs) = P x × Each P xs
