@@ -147,15 +147,16 @@ fn translation() -> Result<(), Refusal> {
         load(&mut mmu, memory.bytes())
     );
 
-    // Now page 0 is mapped to page 6. The cache does not hear of it: a host flushes.
+    // Now page 0 is mapped to page 6. The cache does not hear of it, and answers as before: a host
+    // flushes.
     memory.write_doubleword(0x3000, 0x18CF)?;
     println!(
-        "  entry changed            {}",
+        "  entry changed: stale     {}",
         load(&mut mmu, memory.bytes())
     );
     mmu.flush();
     println!(
-        "  after a flush            {}",
+        "  flushed: cured           {}",
         load(&mut mmu, memory.bytes())
     );
 
