@@ -1,4 +1,4 @@
--- A translation's statement at the door determines its number, the words of the state and the two words for the answer. Assumes nothing.
+-- The statement of a translation on lent words determines its number, the words of the state and the two words for the answer. Assumes nothing.
 use mathlib.Core.Path.{_≡_, sym, _∙_}
 use mathlib.Core.List.{List}
 use Prim.Native.Nat.{ℕ}

@@ -1,4 +1,4 @@
--- The words hold a state by value, and go on holding it: a call of the door on them comes to the same outcome, and leaves the words of the
+-- The words hold a state by value, and go on holding it: a call on them comes to the same outcome, and leaves the words of the
 -- state that the call by value leaves. So what is proved of the state by value, demand 3 first, is true of the words. Assumes nothing.
 use mathlib.Core.Path.{_≡_, refl, sym, ap, _∙_}
 use mathlib.Core.List.{List, [], _∷_}
