@@ -113,6 +113,35 @@ make_wrapper() {
     build_rlib leavnnjar "$top/rust/src/lib.rs" -L native="$LEAVNNJAR_LIB" -l static=host
 }
 
+# The files of the original that the oracle is made of.
+modules=(csr decode extensions gpr mmu system_bus trap)
+
+# What the oracle is built with, and the program over it: what is inlined from the oracle into it takes the program's setting.
+checked=(-C overflow-checks=on)
+
+# The original as a library, oracle. Where it is missing, says what is passed over and ends the script.
+make_oracle() { # WHAT
+    local module added
+    find_original
+    if [ -z "$original" ]; then
+        echo "$1 passed over: the original is neither in \$LEAVNNJAR_ORIGINAL (${LEAVNNJAR_ORIGINAL:-not set}) nor in ../shared/docs/src"
+        [ "${CI:-}" != true ] || fail "with CI=true that is an error"
+        exit 0
+    fi
+    echo "original: $original"
+
+    rm -rf "$top/target/oracle"
+    mkdir -p "$top/target/oracle"
+    for module in "${modules[@]}"; do
+        cp "$original/$module.rs" "$top/target/oracle/"
+        added=$top/rust/oracle/$module.append.rs
+        [ ! -e "$added" ] || cat "$added" >>"$top/target/oracle/$module.rs"
+    done
+
+    find_rustc
+    build_rlib oracle "$top/rust/oracle/oracle.rs" "${checked[@]}"
+}
+
 run() { # NAME ARGUMENTS..
     local name=$1
     shift

@@ -1,5 +1,5 @@
-//! The original, unchanged: `../compare` copies its files to target/oracle and appends to the
-//! copies the *.append.rs of this folder.
+//! The original, unchanged: `make_oracle` of `../toolchain.sh` copies its files to target/oracle and
+//! appends to the copies the *.append.rs of this folder.
 //!
 //! mmu.rs and system_bus.rs name `crate::perf` and `crate::syscall_trace`, which have much else in
 //! them: small stand-ins are in this folder.

@@ -1,0 +1,176 @@
+// mmu.rs. The words are the epoch; page, result page and satp of the load shortcut, and of the store shortcut; then 512 slots of four: tag,
+// result page, leaf entry, epoch. The tables stand in a memory; a call is made with its first bytes, as many as its first input says.
+ghost use Prim.Native.Nat.{_<_};
+use crate::list;
+use crate::list::Line;
+use crate::told;
+use crate::told::Told;
+use answers::Acceptance;
+use mmu::Mmu;
+use mmu::Shortcut;
+use mmu::TlbEntry;
+use mmu::Translated;
+use mmu::Translation;
+use walk::PhysPage;
+use walk::VirtPage;
+
+// 0: new, over a memory of zeros; 1: words are set; 2: a table entry is stored; 3: a flush; 4 to 7: translations.
+pub fn replay(list: &[u8], line: Line, words: &mut [u64; 2055], tables: &mut [u8; 32768]) -> Told {
+    if line.function == 2 {
+        return store(line, list::is_end(list, line.rest), tables);
+    }
+    let translated = call(line, tables, held(words));
+    let answer = translated.answer;
+    if line.function == 0 {
+        *words = [0u64; 2055];
+        *tables = [0u8; 32768];
+    }
+    let is_read = list::change(list, line.rest, words);
+    let is_left = is(translated.mmu, words);
+    told::judged(line, is_read, is_left, told_of(line.function, answer))
+}
+
+fn store(line: Line, is_read: bool, tables: &mut [u8]) -> Told {
+    if line.shape != 0x30 || !is_read {
+        return told::only(told::UNREAD);
+    }
+    match system_bus::write_doubleword(tables, line.a, line.b) {
+        Acceptance::Done => told::only(told::REMARK),
+        Acceptance::Refused(_) => told::only(told::UNREAD),
+    }
+}
+
+// With as many bytes of memory as the line says.
+fn call(line: Line, tables: &[u8], mmu: Mmu) -> Translated {
+    let length = line.a as usize;
+    if tables.len() < length {
+        return settled(mmu);
+    }
+    call_on(line.function, &tables[0..length], line.b, line.c, mmu)
+}
+
+fn call_on(function: u64, tables: &[u8], address: u64, satp: u64, mmu: Mmu) -> Translated {
+    match function {
+        0 => settled(Mmu::new()),
+        3 => settled(mmu.flush()),
+        4 => mmu.translate_fetch(tables, address, satp),
+        5 => mmu.translate_load(tables, address, satp),
+        6 => mmu.translate_store(tables, address, satp),
+        7 => {
+            let answer = Mmu::translate_readable(tables, address, satp);
+            Translated { answer, mmu }
+        }
+        _ => settled(mmu),
+    }
+}
+
+// A call that answers nothing.
+fn settled(mmu: Mmu) -> Translated {
+    let answer = Translation::At {
+        address: 0,
+        reads: 0,
+    };
+    Translated { answer, mmu }
+}
+
+fn told_of(function: u64, answer: Translation) -> Told {
+    if 3 < function && function < 8 {
+        return translation(answer);
+    }
+    match function {
+        0 => told::only(0x01),
+        1 => told::only(told::REMARK),
+        3 => told::only(0x01),
+        _ => told::only(told::UNREAD),
+    }
+}
+
+// Document 01's number; the address found, or the one that was asked for; the table entries read.
+fn translation(answer: Translation) -> Told {
+    match answer {
+        Translation::At { address, reads } => told::values(0x77, 0, address, reads),
+        Translation::Fault { fault, reads } => {
+            told::values(0x77, fault.mcause(), fault.tval(), reads)
+        }
+        Translation::Refused(refusal) => told::values(0x77, refusal.number() as u64, 0, 0),
+    }
+}
+
+// The state that these words are.
+fn held(words: &[u64; 2055]) -> Mmu {
+    let epoch = (words[0] % 0x1_0000_0000) as u32;
+    let load = shortcut(words, 1);
+    let store = shortcut(words, 4);
+    let tlb = slots(words);
+    Mmu {
+        tlb,
+        epoch,
+        load,
+        store,
+    }
+}
+
+fn slots(words: &[u64; 2055]) -> [TlbEntry; 512] {
+    let empty = TlbEntry::empty();
+    let mut tlb = [empty; 512];
+    for i in 0..512 {
+        tlb[i] = slot(words, 7 + 4 * i);
+    }
+    tlb
+}
+
+fn slot(words: &[u64; 2055], at: usize) -> TlbEntry
+    requires { ⌜ at < 2052 ⌝ }
+{
+    let tag = VirtPage(words[at]);
+    let frame = PhysPage(words[at + 1]);
+    TlbEntry {
+        tag,
+        frame,
+        leaf: words[at + 2],
+        epoch: (words[at + 3] % 0x1_0000_0000) as u32,
+    }
+}
+
+fn shortcut(words: &[u64; 2055], at: usize) -> Shortcut
+    requires { ⌜ at < 2053 ⌝ }
+{
+    let page = VirtPage(words[at]);
+    let frame = PhysPage(words[at + 1]);
+    Shortcut {
+        page,
+        frame,
+        satp: words[at + 2],
+    }
+}
+
+// Whether the state is these words.
+fn is(mmu: Mmu, words: &[u64; 2055]) -> bool {
+    let load = shortcut_apart(mmu.load, words, 1);
+    let store = shortcut_apart(mmu.store, words, 4);
+    let mut apart = (mmu.epoch as u64 ^ words[0]) | load | store;
+    for i in 0..512 {
+        apart = apart | slot_apart(mmu.tlb[i], words, 7 + 4 * i);
+    }
+    apart == 0
+}
+
+// 0 where a slot is these words.
+fn slot_apart(slot: TlbEntry, words: &[u64; 2055], at: usize) -> u64
+    requires { ⌜ at < 2052 ⌝ }
+{
+    let tag = slot.tag.0 ^ words[at];
+    let frame = slot.frame.0 ^ words[at + 1];
+    let leaf = slot.leaf ^ words[at + 2];
+    let epoch = slot.epoch as u64 ^ words[at + 3];
+    tag | frame | leaf | epoch
+}
+
+fn shortcut_apart(shortcut: Shortcut, words: &[u64; 2055], at: usize) -> u64
+    requires { ⌜ at < 2053 ⌝ }
+{
+    let page = shortcut.page.0 ^ words[at];
+    let frame = shortcut.frame.0 ^ words[at + 1];
+    let satp = shortcut.satp ^ words[at + 2];
+    page | frame | satp
+}

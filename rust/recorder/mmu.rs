@@ -1,0 +1,436 @@
+//! mmu.rs: walks to leaves and faults of each kind at each level, the cache and its shortcuts, stores
+//! to table entries between calls, epochs at their end, then random guests.
+
+use oracle::mmu::{Mmu, MmuFault};
+use oracle::system_bus::{FlatMemory, SystemBus};
+
+use crate::common::Random;
+use crate::list::{Change, List, changed, not_zero};
+
+const NEW: u64 = 0x0;
+const SET: u64 = 0x1;
+const STORE_ENTRY: u64 = 0x2;
+const FLUSH: u64 = 0x3;
+const FETCH: u64 = 0x4;
+const LOAD: u64 = 0x5;
+const STORE: u64 = 0x6;
+const READABLE: u64 = 0x7;
+
+const KINDS: [u64; 4] = [FETCH, LOAD, STORE, READABLE];
+
+/// Eight pages.
+const LENGTH: usize = 0x8000;
+
+/// The root table stands at page 1.
+const SATP: u64 = (8 << 60) | 1;
+
+const GUESTS: usize = 3;
+const EVENTS: usize = 120;
+
+pub fn record(list: &mut List, random: &mut Random) {
+    list.module(
+        "mmu",
+        'm',
+        "the translation state, as 2055 words: epoch; page, result page and satp of the load \
+         shortcut, and of the store shortcut; 512 slots of tag, result page, leaf entry, epoch",
+    );
+    list.function(
+        NEW,
+        "new = number ; words, over a memory of 8000 bytes that are 0",
+    );
+    list.function(SET, "set = ; words");
+    list.function(STORE_ENTRY, "(a table entry is stored) address entry =");
+    list.function(FLUSH, "flush = number ; words");
+    list.function(
+        FETCH,
+        "translate_fetch length address satp = number value reads ; words",
+    );
+    list.function(
+        LOAD,
+        "translate_load length address satp = number value reads ; words",
+    );
+    list.function(
+        STORE,
+        "translate_store length address satp = number value reads ; words",
+    );
+    list.function(
+        READABLE,
+        "translate_readable length address satp = number value reads",
+    );
+    list.remark("A call is made with the first bytes of the memory, as many as length says. The value is the");
+    list.remark("address found, or where the call faults the address asked for; where translate_readable gives");
+    list.remark(
+        "None the number is a load's. Reads are the table entries read, counted by the memory.",
+    );
+
+    let mut cache = Cache::new(list);
+    walks(&mut cache);
+    slots(&mut cache);
+    stale(&mut cache);
+    satps(&mut cache);
+    epochs(&mut cache);
+    held(&mut cache);
+    lengths(&mut cache);
+    for _ in 0..GUESTS {
+        guest(&mut Cache::new(list), random);
+    }
+}
+
+struct Cache<'a> {
+    list: &'a mut List,
+    mmu: Box<Mmu>,
+    memory: Vec<u8>,
+}
+
+impl<'a> Cache<'a> {
+    fn new(list: &'a mut List) -> Self {
+        let mmu = Box::new(Mmu::new());
+        list.answer(NEW, &[], &[0], &not_zero(&mmu.oracle_words()));
+        let memory = vec![0; LENGTH];
+        Self { list, mmu, memory }
+    }
+
+    fn set(&mut self, changes: &[Change]) {
+        let mut words = self.mmu.oracle_words();
+        for &(place, value) in changes {
+            words[place] = value;
+        }
+        *self.mmu = Mmu::oracle_from(&words);
+        self.list.set(SET, &[], changes);
+    }
+
+    fn entry(&mut self, address: usize, entry: u64) {
+        self.memory[address..address + 8].copy_from_slice(&entry.to_le_bytes());
+        self.list.set(STORE_ENTRY, &[address as u64, entry], &[]);
+    }
+
+    fn flush(&mut self) {
+        let before = self.mmu.oracle_words();
+        self.mmu.flush();
+        let changes = changed(&before, &self.mmu.oracle_words());
+        self.list.answer(FLUSH, &[], &[0], &changes);
+    }
+
+    fn ask(&mut self, kind: u64, address: u64, satp: u64) {
+        self.ask_of(LENGTH, kind, address, satp);
+    }
+
+    fn ask_of(&mut self, length: usize, kind: u64, address: u64, satp: u64) {
+        let before = self.mmu.oracle_words();
+        let mut bus = Counted::new(&self.memory[..length]);
+        let answer = match kind {
+            FETCH => self.mmu.translate_fetch(address, satp, &mut bus),
+            LOAD => self.mmu.translate_load(address, satp, &mut bus),
+            STORE => self.mmu.translate_store(address, satp, &mut bus),
+            _ => Mmu::translate_readable(address, satp, &mut bus)
+                .ok_or(MmuFault::LoadPageFault(address)),
+        };
+        let (number, value) = match answer {
+            Ok(found) => (0, found),
+            Err(fault) => (fault.mcause(), fault.tval()),
+        };
+        let inputs = [length as u64, address, satp];
+        let changes = changed(&before, &self.mmu.oracle_words());
+        self.list
+            .answer(kind, &inputs, &[number, value, bus.reads], &changes);
+    }
+}
+
+/// The original's memory. It counts the table entries that a walk reads.
+struct Counted {
+    memory: FlatMemory,
+    reads: u64,
+}
+
+impl Counted {
+    fn new(bytes: &[u8]) -> Self {
+        let mut memory = FlatMemory::new(bytes.len());
+        memory.load_at(0, bytes);
+        Self { memory, reads: 0 }
+    }
+}
+
+impl SystemBus for Counted {
+    fn read_byte(&mut self, address: u64) -> u8 {
+        self.memory.read_byte(address)
+    }
+
+    fn read_halfword(&mut self, address: u64) -> u16 {
+        self.memory.read_halfword(address)
+    }
+
+    fn read_word(&mut self, address: u64) -> u32 {
+        self.memory.read_word(address)
+    }
+
+    fn read_doubleword(&mut self, address: u64) -> u64 {
+        self.reads += 1;
+        self.memory.read_doubleword(address)
+    }
+
+    fn write_byte(&mut self, address: u64, val: u8) {
+        self.memory.write_byte(address, val)
+    }
+
+    fn write_halfword(&mut self, address: u64, val: u16) {
+        self.memory.write_halfword(address, val)
+    }
+
+    fn write_word(&mut self, address: u64, val: u32) {
+        self.memory.write_word(address, val)
+    }
+
+    fn write_doubleword(&mut self, address: u64, val: u64) {
+        self.memory.write_doubleword(address, val)
+    }
+}
+
+/// A table entry.
+fn entry(page: u64, flags: u64) -> u64 {
+    (page << 10) | flags
+}
+
+/// Flags of an entry: all, all but D, R, X, R and W, R and X; V and W alone, with which the original goes
+/// on to the next level; two with V clear; and every bit.
+const FLAGS: [u64; 10] = [0xCF, 0x4F, 0x3, 0x9, 0x7, 0xB, 0x5, 0xCE, 0x0, 0x3FF];
+
+/// One entry of each kind at each level: the tables stand at pages 1, 2 and 3.
+fn walks(cache: &mut Cache) {
+    cache.entry(0x1000, entry(2, 1));
+    cache.entry(0x2000, entry(3, 1));
+    for (i, flags) in (1..).zip(FLAGS) {
+        let page = 0x100 + i as u64;
+        cache.entry(0x1000 + 8 * i, entry(page << 18, flags));
+        cache.entry(0x2000 + 8 * i, entry(page << 9, flags));
+        cache.entry(0x3000 + 8 * i, entry(page, flags));
+    }
+    // Not aligned, by the lowest bit and by the highest; a pointer to its own table; all bits set.
+    cache.entry(0x1000 + 8 * 0x20, entry(1, 0xCF));
+    cache.entry(0x1000 + 8 * 0x21, entry(1 << 17, 0xCF));
+    cache.entry(0x1000 + 8 * 0x22, entry(1, 1));
+    cache.entry(0x1000 + 8 * 0x23, u64::MAX << 28 | 0xCF);
+    cache.entry(0x2000 + 8 * 0x20, entry(1, 0xCF));
+    cache.entry(0x2000 + 8 * 0x21, entry(1 << 8, 0xCF));
+    cache.entry(0x2000 + 8 * 0x22, entry(2, 1));
+    cache.entry(0x3000 + 8 * 0x20, u64::MAX);
+    cache.entry(0x3000 + 8 * 0x21, entry(3, 1));
+    cache.entry(0x3000 + 8 * 0x1FF, entry((1 << 44) - 1, 0xCF));
+
+    let indexes = (1..=10).chain(0x20..=0x23).chain([0x1FF]);
+    let addresses: Vec<u64> = indexes
+        .flat_map(|i| [i << 30 | 0x1234_5678, i << 21 | 0x12345, i << 12 | 0x123])
+        .collect();
+    for kind in KINDS {
+        for &address in &addresses {
+            cache.ask(kind, address, SATP);
+        }
+        cache.flush();
+    }
+}
+
+/// The same page again and its neighbours, each kind after each other; addresses that share a slot,
+/// 512 pages apart, and a table entry, 2^39 apart.
+fn slots(cache: &mut Cache) {
+    cache.flush();
+    for first in [LOAD, STORE, FETCH] {
+        for then in KINDS {
+            for page in [1, 2, 3, 4, 5, 6] {
+                cache.ask(first, page << 12 | 0xFFF, SATP);
+                cache.ask(then, page << 12, SATP);
+            }
+        }
+        cache.flush();
+    }
+    for apart in [1 << 21, 1 << 39, 1 << 63] {
+        for kind in [LOAD, STORE, FETCH, LOAD, STORE] {
+            cache.ask(kind, 0x1008, SATP);
+            cache.ask(kind, 0x1008 + apart, SATP);
+            cache.ask(kind, 0x1FF8, SATP);
+        }
+    }
+    cache.flush();
+}
+
+/// Entries stored to after they were read: the cache goes by what it holds, until it is emptied.
+fn stale(cache: &mut Cache) {
+    for flags in FLAGS {
+        cache.entry(0x3008, entry(0x111, 0xCF));
+        cache.flush();
+        for kind in [LOAD, STORE, FETCH] {
+            cache.ask(kind, 0x1000, SATP);
+        }
+        cache.entry(0x3008, entry(0x222, flags));
+        for kind in KINDS {
+            cache.ask(kind, 0x1010, SATP);
+        }
+        cache.flush();
+        for kind in KINDS {
+            cache.ask(kind, 0x1020, SATP);
+        }
+    }
+    cache.entry(0x3008, entry(0x101, 0xCF));
+    cache.flush();
+}
+
+/// Other roots, address spaces and modes; unpaged ones. A shortcut goes by satp, a slot does not.
+fn satps(cache: &mut Cache) {
+    cache.entry(0x4000, entry(5, 1));
+    cache.entry(0x5000, entry(6, 1));
+    cache.entry(0x6008, entry(0x333, 0xCF));
+    let satps = [
+        0,
+        1,
+        SATP & (u64::MAX >> 4),
+        (8 << 60) | 4,
+        (1 << 60) | 1,
+        (9 << 60) | 1,
+        (15 << 60) | 4,
+        SATP | (0xFFFF << 44),
+        SATP | (1 << 43),
+        SATP + 8,
+        u64::MAX,
+    ];
+    for satp in satps {
+        for kind in KINDS {
+            cache.ask(kind, 0x1018, SATP);
+            cache.ask(kind, 0x1018, satp);
+            cache.ask(kind, u64::MAX, satp);
+        }
+        cache.flush();
+        for kind in KINDS {
+            cache.ask(kind, 0x1018, satp);
+        }
+    }
+}
+
+/// The last epochs before they come round, after which a slot of an old epoch counts again; and 0,
+/// which no flush gives.
+fn epochs(cache: &mut Cache) {
+    cache.set(&[(0, 1)]);
+    cache.ask(LOAD, 0x1000, SATP);
+    cache.ask(STORE, 0x1000, SATP);
+    for epoch in [0xFFFF_FFFD, 0xFFFF_FFFF, 0, 0x7FFF_FFFF] {
+        cache.set(&[(0, epoch)]);
+        for _ in 0..3 {
+            cache.flush();
+            cache.ask(LOAD, 0x1008, SATP);
+            cache.ask(STORE, 0x1008, SATP);
+        }
+    }
+    cache.flush();
+}
+
+/// Slots and shortcuts that no walk filled: result pages of more than 52 bits lose the others, and a
+/// page that no address has is no one's.
+fn held(cache: &mut Cache) {
+    let slot = |page: usize| 7 + 4 * page;
+    for (frame, leaf) in [
+        (5, 0xCF),
+        (u64::MAX, 0x7),
+        (1 << 52, 0x8F),
+        (0x123, 0x87),
+        (0x321, 0x84),
+    ] {
+        cache.set(&[
+            (0, 9),
+            (slot(3), 3),
+            (slot(3) + 1, frame),
+            (slot(3) + 2, leaf),
+            (slot(3) + 3, 9),
+            (1, 4),
+            (2, frame),
+            (3, SATP),
+            (4, 4),
+            (5, frame ^ 1),
+            (6, SATP),
+        ]);
+        for kind in KINDS {
+            cache.ask(kind, 0x4321, SATP);
+            cache.ask(kind, 0x3321, SATP);
+            cache.ask(kind, u64::MAX, SATP);
+        }
+    }
+    cache.set(&[(1, u64::MAX), (4, u64::MAX)]);
+    cache.flush();
+}
+
+/// The same calls with shorter memories, in which the tables lie elsewhere.
+fn lengths(cache: &mut Cache) {
+    for length in [8, 64, 0x1000, 0x2000, 0x4000] {
+        for first in [0, entry(0, 1), entry(1 << 18, 0xCF)] {
+            cache.entry(0, first);
+            cache.flush();
+            for kind in KINDS {
+                cache.ask_of(length, kind, 0x1018, SATP);
+                cache.ask_of(length, kind, 0x4000_0000, SATP);
+            }
+        }
+    }
+    cache.ask_of(8, LOAD, 0x8000_0000, SATP & (u64::MAX >> 4));
+}
+
+/// A memory with tables of random entries, few pages and few satps; calls, stores to entries and
+/// flushes in any order.
+fn guest(cache: &mut Cache, random: &mut Random) {
+    let root = 1 + random.below(3);
+    let first = random.below(1 << 27);
+    let page = |random: &mut Random| match random.below(6) {
+        0 => first + 1,
+        1 => first ^ (1 << 9),
+        2 => first ^ (1 << 18),
+        3 => first | (1 << 27),
+        _ => first,
+    };
+    let satps = [
+        (8 << 60) | root,
+        (8 << 60) | (5 << 44) | root,
+        (8 << 60) | (root + 1),
+        root,
+    ];
+
+    for _ in 0..EVENTS {
+        let satp = satps[(random.below(10) as usize).saturating_sub(6)];
+        match random.below(12) {
+            0 => cache.flush(),
+            1..=4 => {
+                let address = page(random) << 12;
+                let place = place(&cache.memory, random, address, satps[0]);
+                cache.entry(place, any_entry(random));
+            }
+            _ => {
+                let kind = KINDS[random.below(4) as usize];
+                cache.ask(kind, page(random) << 12 | random.below(0x1000), satp);
+            }
+        }
+    }
+}
+
+/// The place of an entry that a walk for this address reads: of the last one, most often.
+fn place(memory: &[u8], random: &mut Random, address: u64, satp: u64) -> usize {
+    let mut table = satp & ((1 << 44) - 1);
+    let mut place = 0;
+    for level in [2, 1, 0] {
+        let index = (address >> (12 + 9 * level)) & 0x1FF;
+        place = ((table * 0x1000 + index * 8) % memory.len() as u64) as usize;
+        let bytes = memory[place..place + 8].try_into().expect("eight bytes");
+        let entry = u64::from_le_bytes(bytes);
+        let pointer = entry & 0b1011 == 1;
+        if !pointer || random.below(8) == 0 {
+            break;
+        }
+        table = (entry >> 10) & ((1 << 44) - 1);
+    }
+    place
+}
+
+/// Mostly pointers, so that walks go deep; leaves that are aligned for a level.
+fn any_entry(random: &mut Random) -> u64 {
+    let page = random.word() >> 20;
+    match random.below(8) {
+        0..=3 => entry(1 + random.below(7), 1),
+        4 => entry(page >> 18 << 18, 0xCF),
+        5 => entry(page >> 9 << 9, random.word() & 0x3FF | 3),
+        6 => entry(page, 0xCF),
+        _ => random.word(),
+    }
+}
