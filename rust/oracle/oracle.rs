@@ -2,8 +2,9 @@
 //! appends to the copies the *.append.rs of this folder.
 //!
 //! mmu.rs and system_bus.rs name `crate::perf` and `crate::syscall_trace`, which have much else in
-//! them: small stand-ins are in this folder.
+//! them: small stand-ins are in this folder. So is `counted`, a bus that counts.
 
+pub mod counted;
 #[path = "../../target/oracle/csr.rs"]
 pub mod csr;
 #[path = "../../target/oracle/decode.rs"]

@@ -1,8 +1,8 @@
 //! mmu.rs: walks to leaves and faults of each kind at each level, the cache and its shortcuts, stores
 //! to table entries between calls, epochs at their end, then random guests.
 
+use oracle::counted::Counted;
 use oracle::mmu::{Mmu, MmuFault};
-use oracle::system_bus::{FlatMemory, SystemBus};
 
 use crate::common::Random;
 use crate::list::{Change, List, changed, not_zero};
@@ -133,55 +133,6 @@ impl<'a> Cache<'a> {
         let changes = changed(&before, &self.mmu.oracle_words());
         self.list
             .answer(kind, &inputs, &[number, value, bus.reads], &changes);
-    }
-}
-
-/// The original's memory. It counts the table entries that a walk reads.
-struct Counted {
-    memory: FlatMemory,
-    reads: u64,
-}
-
-impl Counted {
-    fn new(bytes: &[u8]) -> Self {
-        let mut memory = FlatMemory::new(bytes.len());
-        memory.load_at(0, bytes);
-        Self { memory, reads: 0 }
-    }
-}
-
-impl SystemBus for Counted {
-    fn read_byte(&mut self, address: u64) -> u8 {
-        self.memory.read_byte(address)
-    }
-
-    fn read_halfword(&mut self, address: u64) -> u16 {
-        self.memory.read_halfword(address)
-    }
-
-    fn read_word(&mut self, address: u64) -> u32 {
-        self.memory.read_word(address)
-    }
-
-    fn read_doubleword(&mut self, address: u64) -> u64 {
-        self.reads += 1;
-        self.memory.read_doubleword(address)
-    }
-
-    fn write_byte(&mut self, address: u64, val: u8) {
-        self.memory.write_byte(address, val)
-    }
-
-    fn write_halfword(&mut self, address: u64, val: u16) {
-        self.memory.write_halfword(address, val)
-    }
-
-    fn write_word(&mut self, address: u64, val: u32) {
-        self.memory.write_word(address, val)
-    }
-
-    fn write_doubleword(&mut self, address: u64, val: u64) {
-        self.memory.write_doubleword(address, val)
     }
 }
 

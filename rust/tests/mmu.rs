@@ -8,13 +8,14 @@ mod loose;
 mod states;
 
 use leavnnjar::mmu::Mmu;
+use oracle::counted::Counted;
 use oracle::mmu::Mmu as Original;
 use oracle::system_bus::SystemBus;
 
 use crate::common::{Random, Tally};
 use crate::door;
 use crate::system_bus::zeroed;
-use call::{Answer, Ask, Counted, Door, Kind, Library};
+use call::{Answer, Ask, Door, Kind, Library};
 use guest::{Event, Guest};
 
 type Words = [u64; 2055];
