@@ -1,17 +1,15 @@
 -- The door and the registers by value agree: a call on the words of some registers leaves, and reads, the words of what the call
 -- by value leaves, and reads. (The calls' definitions are the same; these are the laws of the layout.) Assumes nothing.
-use mathlib.Core.Path.{_≡_, refl, sym, ap, _∙_}
-use mathlib.Core.Bool.{Bool, true, false, cond}
+use mathlib.Core.Path.{_≡_, sym, ap, _∙_}
 use mathlib.Core.List.{List, [], _∷_, _++_, append-assoc}
-use Prim.Native.Nat.{ℕ, suc, _+_, _%_, _<_, _≤_}
-use native.Mathlib.Nat.{mod-lt}
+use Prim.Native.Nat.{ℕ, _+_, _%_, _<_}
 use native.Mathlib.Omega.{arith}
 use borrow.Author.Tests.{lt-ltb, le-ltb}
-use lib.Dec.{eqb, ltb}
-use lib.ListN.{length, getD, take, drop, set, length-append, length-set, List·getD-append}
+use lib.Dec.{eqb}
+use lib.ListN.{length, getD, take, set, length-append, length-set, List·getD-append}
 use lib.Seq.{set-append-left, take-at, drop-at}
 use Rattle.answers.proofs.Orders.{by-order, by-test}
-use Rattle.gpr.specs.Registers.{withX, withF, shown, readX, readF, readF32, writeX, writeF, writeF32, readMasked, writeMasked}
+use Rattle.gpr.specs.Registers.{withX, withF, shown, readX, readF, readF32, writeX, writeF, readMasked, writeMasked}
 use Rattle.gpr.specs.declared.Gpr.{Gpr}
 use Rattle.host.specs.Registers.{wordsOf, floats, withFloats}
 

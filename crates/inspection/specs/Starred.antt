@@ -2,7 +2,7 @@
 -- that these are equal in every case. Assumes nothing.
 use mathlib.Core.Path.{_≡_, refl}
 use mathlib.Core.List.{List, [], _∷_, map}
-use Prim.Native.Nat.{ℕ, suc, _+_, _-_, _^_}
+use Prim.Native.Nat.{ℕ, _+_, _-_, _^_}
 use lib.Count.{leadingZeros}
 use lib.IntN.{ℤ, pos, negℤ}
 use lib.ListN.{replicate}

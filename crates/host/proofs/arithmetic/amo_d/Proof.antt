@@ -1,5 +1,5 @@
 -- `host::arithmetic::amo_d` meets its contract. Assumes nothing.
-use mathlib.Core.Path.{_≡_, ap}
+use mathlib.Core.Path.{ap}
 use Rattle.host.specs.Pairs.{wordsD}
 use borrow.Author.Needs.{needs}
 use Rattle.host.proofs.arithmetic.amo_d.Statement.{statement}

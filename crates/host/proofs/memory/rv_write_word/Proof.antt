@@ -1,7 +1,5 @@
 -- `host::memory::rv_write_word` meets its contract. Assumes nothing.
 use mathlib.Core.Path.{ap, _∙_}
-use Prim.Native.Nat.{ℕ}
-use Rattle.answers.specs.Told.{Told}
 use borrow.Author.Needs.{needs}
 use Rattle.host.proofs.memory.rv_write_word.Statement.{statement}
 use Rattle.host.proofs.memory.rv_write_word.Tie as tie

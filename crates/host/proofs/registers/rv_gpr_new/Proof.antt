@@ -1,5 +1,5 @@
 -- `host::registers::rv_gpr_new` meets its contract. The loop's invariant: the first i words are 0, and the others all ones. Assumes nothing.
-use mathlib.Core.Path.{_≡_, refl, sym, ap, _∙_, subst}
+use mathlib.Core.Path.{_≡_, refl, ap, _∙_}
 use mathlib.Core.List.{List, _++_}
 use Prim.Native.Nat.{ℕ, _≤_, _-_, _^_}
 use native.Mathlib.Omega.{arith}

@@ -1,5 +1,5 @@
 -- `host::registers::rv_gpr_read` meets its contract: the test of the register's number says which case of the definition holds. Assumes nothing.
-use mathlib.Core.Path.{_≡_, refl, sym, ap, _∙_}
+use mathlib.Core.Path.{refl}
 use borrow.Author.Tests.{lt-ltb, le-ltb}
 use borrow.Author.Needs.{needs}
 use Rattle.host.proofs.registers.rv_gpr_read.Statement.{statement}

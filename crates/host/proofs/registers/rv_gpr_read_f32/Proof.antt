@@ -1,5 +1,5 @@
 -- `host::registers::rv_gpr_read_f32` meets its contract: the test of the register's number says which case of the definition holds. Assumes nothing.
-use mathlib.Core.Path.{_≡_, refl, sym, ap, _∙_}
+use mathlib.Core.Path.{refl, sym, ap, _∙_}
 use borrow.Author.Tests.{lt-ltb, le-ltb}
 use lib.Seq.{getD-drop}
 use Rattle.gpr.specs.Boxes.{unboxed}

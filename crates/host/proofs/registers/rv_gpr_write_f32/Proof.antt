@@ -1,5 +1,5 @@
 -- `host::registers::rv_gpr_write_f32` meets its contract: the write of the boxed value. Assumes nothing.
-use mathlib.Core.Path.{_≡_, refl, sym, ap, _∙_}
+use mathlib.Core.Path.{ap, _∙_}
 use Prim.Native.Nat.{ℕ}
 use Rattle.gpr.specs.Registers.{writeF}
 use Rattle.host.specs.Registers.{floats, withFloats}
