@@ -1,5 +1,4 @@
-# Cuts the pointer tables and the counters' notes out of the original's mmu.rs. Has its calls inlined: left to the compiler, that
-# changes from build to build, and the times with it.
+# Cuts the pointer tables and the counters' notes out of the original's mmu.rs.
 
 # Inside something that goes, up to the brace that closes it.
 ending != "" {
@@ -22,10 +21,6 @@ ending != "" {
 ending != "" || /FastEntry/ || /(load|store)_fast/ || /perf::|::perf/ {
     held = ""
     next
-}
-
-/^    pub fn (translate_|flush)/ {
-    held = held "    #[inline(always)]\n"
 }
 
 # Where something went, one empty line is left.
