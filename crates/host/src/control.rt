@@ -59,6 +59,10 @@ pub extern "C" fn rv_csr_write(
 pub extern "C" fn rv_csr_pending(csr: &[u64; 136], privilege: u64, out: &mut u64) -> bool
     ensures { λ r. ⌜ Found (pendingIn (now (csr .entry)) (modeOf privilege)) (now (out .entry)) r (now (out .exit)) ⌝ }
 {
+    // Most calls end here, before the mode is made.
+    if csr[12] & csr[4] == 0 {
+        return false;
+    }
     let mode = PrivMode::from_bits(privilege);
     match csr::choose_interrupt(csr[12], csr[4], csr[3], csr[0], mode) {
         Pending::Bit(bit) => {

@@ -1,4 +1,5 @@
--- `host::control::rv_csr_pending` meets its contract: what the choice tells. Assumes nothing.
+-- `host::control::rv_csr_pending` meets its contract: where nothing is pending and enabled, nothing is chosen; else what the choice tells.
+-- Assumes nothing.
 use mathlib.Core.Path.{_≡_, sym, ap, _∙_}
 use Prim.Native.Nat.{ℕ}
 use Rattle.answers.specs.Told.{Told, done, accepted}
@@ -9,6 +10,18 @@ use Rattle.csr.specs.Registers.{pendingIn}
 use borrow.Author.Needs.{needs}
 use Rattle.host.proofs.control.rv_csr_pending.Statement.{statement}
 use Rattle.host.proofs.control.rv_csr_pending.Tie as tie
+
+element-copy-out-if1 : tie.Need-element-copy-out-if1
+element-copy-out-if1 c = search needs
+
+element-copy-out-if1-2 : tie.Need-element-copy-out-if1-2
+element-copy-out-if1-2 c = search needs
+
+returns : tie.Need-returns
+returns c =
+    let a = c .before .before .before .args
+    in let t : _≡_ {A = Told ℕ} accepted (pendingIn (a .csr .now) (modeOf (a .privilege))) = rw (c .if1 .taken)
+    in found-nothing (a .out .now) t
 
 from-bits-requires : tie.Need-from-bits-requires
 from-bits-requires c κs = search needs
@@ -34,21 +47,21 @@ enum-known-bit c = search needs
 enum-told : tie.Need-enum-told
 enum-told c = search needs
 
-returns : tie.Need-returns
-returns c =
+returns-2 : tie.Need-returns-2
+returns-2 c =
     let w = c .before .before .before
     in let m = w .before .before .before .before .before
-    in let a = m .before .args
+    in let a = m .before .before .before .before .args
     in let ws = a .csr .now
     in let t : done (c .before .bit .given .0 .0) ≡ pendingIn ws (modeOf (a .privilege)) =
     ap pending (sym (c .before .bit .given .1)) ∙ w .choose-interrupt .ensures ∙ ap (pendingIn ws) (m .from-bits .ensures)
     in found-value (a .out .now) t
 
-returns-2 : tie.Need-returns-2
-returns-2 c =
+returns-3 : tie.Need-returns-3
+returns-3 c =
     let w = c .before .before
     in let m = w .before .before .before .before .before
-    in let a = m .before .args
+    in let a = m .before .before .before .before .args
     in let ws = a .csr .now
     in let t : _≡_ {A = Told ℕ} accepted (pendingIn ws (modeOf (a .privilege))) =
     ap pending (sym (c .enum-told .given .1)) ∙ w .choose-interrupt .ensures ∙ ap (pendingIn ws) (m .from-bits .ensures)
@@ -58,6 +71,9 @@ pub rv-csr-pending-spec : {M : Type 1} → statement M
 rv-csr-pending-spec =
     tie.close
     (tie.spec
+    element-copy-out-if1
+    element-copy-out-if1-2
+    returns
     from-bits-requires
     element-copy-out-choose-interrupt
     element-copy-out-choose-interrupt-2
@@ -66,5 +82,5 @@ rv-csr-pending-spec =
     choose-interrupt-requires
     enum-known-bit
     enum-told
-    returns
-    returns-2)
+    returns-2
+    returns-3)
