@@ -20,7 +20,7 @@ pub extern "C" fn rv_csr_new(csr: &mut [u64; 136])
 pub extern "C" fn rv_csr_read(csr: &[u64; 136], address: u32, privilege: u64, out: &mut u64) -> u32
     ensures { λ r. ⌜ Gave (readRegister (now (csr .entry)) address (modeOf privilege)) (now (out .entry)) r (now (out .exit)) ⌝ }
 {
-    let place = csr_list::place_of(address);
+    let place = csr_list::place_in(csr_list::entry_of(address));
     let at = place.word;
     let view = place.view;
     let mode = PrivMode::from_bits(privilege);
@@ -42,7 +42,7 @@ pub extern "C" fn rv_csr_write(
 ) -> u32
     ensures { λ r. ⌜ (r ≡ newWord (now (csr .entry)) address value (modeOf privilege) .number) × (now (csr .exit) ≡ writeRegister (now (csr .entry)) address value (modeOf privilege)) ⌝ }
 {
-    let place = csr_list::place_of(address);
+    let place = csr_list::place_in(csr_list::entry_of(address));
     let at = place.word;
     let view = place.view;
     let mode = PrivMode::from_bits(privilege);

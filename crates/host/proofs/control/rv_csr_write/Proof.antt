@@ -5,8 +5,9 @@ use lib.ListN.{getD, set}
 use Rattle.answers.specs.Refusals.{numberOf}
 use Rattle.answers.specs.Answers.{reading}
 use Rattle.answers.specs.Told.{Told, done, refused}
-use Rattle.csr_list.specs.List.{placeOf}
+use Rattle.csr_list.specs.List.{placeOf, placeIn}
 use Rattle.csr_list.specs.declared.Place.{Place}
+use Rattle.csr_list.proofs.Places.{held}
 use Rattle.csr.specs.declared.PrivMode.{PrivMode}
 use Rattle.csr.specs.Modes.{modeOf}
 use Rattle.csr.specs.Views.{writeOf}
@@ -15,8 +16,11 @@ use borrow.Author.Needs.{needs}
 use Rattle.host.proofs.control.rv_csr_write.Statement.{statement}
 use Rattle.host.proofs.control.rv_csr_write.Tie as tie
 
-place-of-requires : tie.Need-place-of-requires
-place-of-requires c κs = search needs
+entry-of-requires : tie.Need-entry-of-requires
+entry-of-requires c κs = search needs
+
+place-in-requires : tie.Need-place-in-requires
+place-in-requires c κs = search needs
 
 from-bits-requires : tie.Need-from-bits-requires
 from-bits-requires c κs = search needs
@@ -55,25 +59,27 @@ returns : tie.Need-returns
 returns c =
     let w = c .before .before .before
     in let m = w .before .before .before .before
-    in let a = m .before .before .args
+    in let a = m .before .before .before .args
     in let ws = a .csr .now
+    in let place = m .before .place-in .ensures .0 ∙ ap placeIn (m .before .before .entry-of .ensures .0) ∙ held (a .address)
     in let x = c .before .word .given
     in let t : done (x .0 .0) ≡ newWord ws (a .address) (a .value) (modeOf (a .privilege)) =
     ap reading (sym (x .1)) ∙ w .write-word .ensures
-    ∙ ap (λ (q : Place). writeOf (q .view) (getD ws (q .word) 0) (a .value) (getD ws 3 0) (getD ws 0 0) (m .from-bits .result)) (m .before .place-of .ensures .0)
+    ∙ ap (λ (q : Place). writeOf (q .view) (getD ws (q .word) 0) (a .value) (getD ws 3 0) (getD ws 0 0) (m .from-bits .result)) place
     ∙ ap (λ (k : PrivMode). newWord ws (a .address) (a .value) k) (m .from-bits .ensures)
-    in (ap (λ (u : Told ℕ). u .number) t, ap (λ (q : Place). set ws (q .word) (x .0 .0)) (m .before .place-of .ensures .0) ∙ ap (λ (u : Told ℕ). stored (u .values) ws (placeOf (a .address) .word)) t)
+    in (ap (λ (u : Told ℕ). u .number) t, ap (λ (q : Place). set ws (q .word) (x .0 .0)) place ∙ ap (λ (u : Told ℕ). stored (u .values) ws (placeOf (a .address) .word)) t)
 
 returns-2 : tie.Need-returns-2
 returns-2 c =
     let w = c .before .before .before .before
     in let m = w .before .before .before .before
-    in let a = m .before .before .args
+    in let a = m .before .before .before .args
     in let ws = a .csr .now
+    in let place = m .before .place-in .ensures .0 ∙ ap placeIn (m .before .before .entry-of .ensures .0) ∙ held (a .address)
     in let x = c .before .before .refusal .given
     in let t : refused (numberOf (x .0 .0)) ≡ newWord ws (a .address) (a .value) (modeOf (a .privilege)) =
     ap reading (sym (x .1)) ∙ w .write-word .ensures
-    ∙ ap (λ (q : Place). writeOf (q .view) (getD ws (q .word) 0) (a .value) (getD ws 3 0) (getD ws 0 0) (m .from-bits .result)) (m .before .place-of .ensures .0)
+    ∙ ap (λ (q : Place). writeOf (q .view) (getD ws (q .word) 0) (a .value) (getD ws 3 0) (getD ws 0 0) (m .from-bits .result)) place
     ∙ ap (λ (k : PrivMode). newWord ws (a .address) (a .value) k) (m .from-bits .ensures)
     in (c .number .ensures ∙ ap (λ (u : Told ℕ). u .number) t, ap (λ (u : Told ℕ). stored (u .values) ws (placeOf (a .address) .word)) t)
 
@@ -81,7 +87,8 @@ pub rv-csr-write-spec : {M : Type 1} → statement M
 rv-csr-write-spec =
     tie.close
     (tie.spec
-    place-of-requires
+    entry-of-requires
+    place-in-requires
     from-bits-requires
     mul-write-word
     element-copy-out-write-word
