@@ -3,7 +3,7 @@
 use std::env::consts::ARCH;
 use std::time::Instant;
 
-const ROUNDS: usize = 200;
+const ROUNDS: usize = 2_000;
 pub const CALLS: usize = 4_096;
 
 pub fn head() {
