@@ -5,7 +5,7 @@ use original::csr::{Csr as Original, PrivMode as Mode};
 
 use crate::ways::{CALLS, scattered, trace};
 
-/// A mix of addresses, in no order that could be learnt: mscratch, mtvec, mepc, mcause, sscratch,
+/// A mix of addresses, in random order: mscratch, mtvec, mepc, mcause, sscratch,
 /// stvec, scause, mstatus, sstatus, sie, pmpaddr5, mcycle, cycle, hpmcounter7, satp, and one that
 /// is not listed.
 fn addresses() -> Vec<(u32, u64)> {
