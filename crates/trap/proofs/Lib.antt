@@ -1,0 +1,2 @@
+-- What stands beside the functions' proofs.
+pub mod Contracts
