@@ -3,10 +3,11 @@ use mathlib.Core.Path.{refl, sym, _∙_}
 use Rattle.answers.specs.Strong.{Strong}
 use Rattle.answers.proofs.Determined.{readings}
 use Rattle.csr.proofs.Determined.{choices, files, writings}
+use Rattle.answers.proofs.Strong.{equation}
 use Rattle.csr.proofs as fn
 
 PrivMode-from-bits : Strong _ fn.PrivMode.from_bits.Kinds.ps fn.PrivMode.from_bits.Kinds.r fn.PrivMode.from_bits.Reads.Pre fn.PrivMode.from_bits.Reads.Post
-PrivMode-from-bits = record { total = λ κs a. tt; determined = λ κs a x y e f p q. (p ∙ sym q, refl) }
+PrivMode-from-bits = equation (λ κs a e f. refl)
 
 Csr-new : Strong _ fn.Csr.new.Kinds.ps fn.Csr.new.Kinds.r fn.Csr.new.Reads.Pre fn.Csr.new.Reads.Post
 Csr-new = record { total = λ κs a. tt; determined = λ κs a x y e f p q. (files x y (p ∙ sym q), refl) }

@@ -1,11 +1,12 @@
 -- The contract of each public function takes anything and allows one outcome. Assumes nothing.
 use mathlib.Core.Path.{refl, sym, _∙_}
 use Rattle.answers.specs.Strong.{Strong}
-use Rattle.answers.proofs.Determined.{acceptances, readings, both}
+use Rattle.answers.proofs.Determined.{acceptances, readings}
+use Rattle.answers.proofs.Strong.{equation, both}
 use Rattle.system_bus.proofs as fn
 
 usable : Strong _ fn.usable.Kinds.ps fn.usable.Kinds.r fn.usable.Reads.Pre fn.usable.Reads.Post
-usable = record { total = λ κs a. tt; determined = λ κs a x y e f p q. (p ∙ sym q, refl) }
+usable = equation (λ κs a e f. refl)
 
 read-byte : Strong _ fn.read_byte.Kinds.ps fn.read_byte.Kinds.r fn.read_byte.Reads.Pre fn.read_byte.Reads.Post
 read-byte = record { total = λ κs a. tt; determined = λ κs a x y e f p q. (readings x y (p ∙ sym q), refl) }

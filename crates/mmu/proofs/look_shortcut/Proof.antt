@@ -2,6 +2,7 @@
 use mathlib.Core.Path.{sym, ap, _∙_}
 use Prim.Native.Nat.{ℕ}
 use Rattle.mmu.specs.declared.Lookup.the-variants.{Straight}
+use Rattle.mmu.specs.Answers.{lookup}
 use Rattle.mmu.specs.Cache.{accepts, lookShortcut}
 use borrow.Author.Needs.{needs}
 use Rattle.mmu.proofs.look_shortcut.Statement.{statement}
@@ -34,7 +35,7 @@ returns-2 c =
     in let n = q .before .before
     in let u = n .before .before
     in rw (sym (u .usable .ensures) ∙ n .before .if1 .taken, sym (n .is-unpaged .ensures) ∙ q .before .if2 .left, sym (q .is-quick .ensures) ∙ t .if3 .taken)
-    (ap (λ (a : ℕ). Straight a) (c .address-in .ensures))
+    (ap (λ (a : ℕ). lookup (Straight a)) (c .address-in .ensures))
 
 returns-3 : tie.Need-returns-3
 unfolding lookShortcut accepts

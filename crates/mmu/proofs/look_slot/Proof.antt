@@ -2,6 +2,7 @@
 use mathlib.Core.Path.{sym, ap, _∙_}
 use Prim.Native.Nat.{ℕ}
 use Rattle.mmu.specs.declared.Lookup.the-variants.{Held}
+use Rattle.mmu.specs.Answers.{lookup}
 use Rattle.mmu.specs.Cache.{lookSlot}
 use borrow.Author.Needs.{needs}
 use Rattle.mmu.proofs.look_slot.Statement.{statement}
@@ -18,7 +19,7 @@ unfolding lookSlot
 returns c =
     let t = c .before .before
     in let h = t .before
-    in rw (sym (h .is-held .ensures) ∙ t .if1 .taken) (ap (λ (a : ℕ). Held a (h .before .args .slot .frame)) (c .address-in .ensures))
+    in rw (sym (h .is-held .ensures) ∙ t .if1 .taken) (ap (λ (a : ℕ). lookup (Held a (h .before .args .slot .frame))) (c .address-in .ensures))
 
 returns-2 : tie.Need-returns-2
 unfolding lookSlot
