@@ -1,0 +1,1 @@
+-- The contract of each public function takes anything and allows one outcome. Assumes nothing.
