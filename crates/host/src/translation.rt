@@ -1,19 +1,19 @@
-// The translation state, as 2055 words: crate mmu_words has the layout, and the work.
+// The translation state, as words: crate mmu_words has the layout, and the work.
 ghost use mathlib.Core.Path.{_≡_};
 ghost use Rattle.mmu.specs.Answers.{translation};
 ghost use Rattle.mmu.specs.Cache.{callOf, readable};
 ghost use Rattle.walk.specs.declared.Kind.the-variants.{Fetch, Load, Store};
-ghost use Rattle.mmu_words.specs.Words.{newWords, flushedWords, Answered, Translates};
+ghost use Rattle.mmu_words.specs.Words.{newWords, flushedWords, GavePair, Translates};
 
 #[no_mangle]
-pub extern "C" fn rv_mmu_new(mmu: &mut [u64; 2055])
+pub extern "C" fn rv_mmu_new(mmu: &mut [u64; mmu_words::WORDS])
     ensures { λ r. ⌜ now (mmu .exit) ≡ newWords ⌝ }
 {
     mmu_words::new(mmu)
 }
 
 #[no_mangle]
-pub extern "C" fn rv_flush(mmu: &mut [u64; 2055])
+pub extern "C" fn rv_flush(mmu: &mut [u64; mmu_words::WORDS])
     ensures { λ r. ⌜ now (mmu .exit) ≡ flushedWords (now (mmu .entry)) ⌝ }
 {
     mmu_words::flush(mmu)
@@ -21,7 +21,7 @@ pub extern "C" fn rv_flush(mmu: &mut [u64; 2055])
 
 #[no_mangle]
 pub extern "C" fn rv_translate_fetch(
-    mmu: &mut [u64; 2055],
+    mmu: &mut [u64; mmu_words::WORDS],
     memory: &[u8],
     address: u64,
     satp: u64,
@@ -34,7 +34,7 @@ pub extern "C" fn rv_translate_fetch(
 
 #[no_mangle]
 pub extern "C" fn rv_translate_load(
-    mmu: &mut [u64; 2055],
+    mmu: &mut [u64; mmu_words::WORDS],
     memory: &[u8],
     address: u64,
     satp: u64,
@@ -47,7 +47,7 @@ pub extern "C" fn rv_translate_load(
 
 #[no_mangle]
 pub extern "C" fn rv_translate_store(
-    mmu: &mut [u64; 2055],
+    mmu: &mut [u64; mmu_words::WORDS],
     memory: &[u8],
     address: u64,
     satp: u64,
@@ -65,7 +65,7 @@ pub extern "C" fn rv_translate_readable(
     satp: u64,
     out: &mut [u64; 2],
 ) -> u32
-    ensures { λ r. ⌜ Answered (translation (readable (now (memory .entry)) address satp)) (now (out .entry)) r (now (out .exit)) ⌝ }
+    ensures { λ r. ⌜ GavePair (translation (readable (now (memory .entry)) address satp)) (now (out .entry)) r (now (out .exit)) ⌝ }
 {
     mmu_words::translate_readable(memory, address, satp, out)
 }

@@ -1,0 +1,24 @@
+-- Demand 3, of the exported functions: their contracts are those of mmu_words. Assumes nothing.
+use Rattle.walk.specs.declared.Kind.the-variants.{Fetch, Load, Store}
+use Rattle.mmu_words.proofs.Promised.{Fresh, Free, fetch-fresh, load-fresh, store-fresh, fetch-free, load-free, store-free}
+use Rattle.host.proofs.translation as fn
+
+-- THE DEMAND
+pub rv-translate-fetch-fresh : Fresh Fetch fn.rv_translate_fetch.Reads.Post
+rv-translate-fetch-fresh = fetch-fresh
+
+pub rv-translate-load-fresh : Fresh Load fn.rv_translate_load.Reads.Post
+rv-translate-load-fresh = load-fresh
+
+pub rv-translate-store-fresh : Fresh Store fn.rv_translate_store.Reads.Post
+rv-translate-store-fresh = store-fresh
+
+-- THE LAST SENTENCE
+pub rv-translate-fetch-free : Free Fetch fn.rv_translate_fetch.Reads.Post
+rv-translate-fetch-free = fetch-free
+
+pub rv-translate-load-free : Free Load fn.rv_translate_load.Reads.Post
+rv-translate-load-free = load-free
+
+pub rv-translate-store-free : Free Store fn.rv_translate_store.Reads.Post
+rv-translate-store-free = store-free
