@@ -4,7 +4,9 @@
 use std::error::Error;
 
 use leavnnjar::Refusal;
-use leavnnjar::csr::{Csr, MIDELEG, MIE, MIP, MIP_SSIP, MIP_STIP, MSTATUS, PrivMode, SSTATUS};
+use leavnnjar::csr::{
+    Csr, MIDELEG, MIE, MIP, MIP_MTIP, MIP_SSIP, MIP_STIP, MSTATUS, PrivMode, SSTATUS,
+};
 use leavnnjar::decode::Instruction;
 use leavnnjar::extensions::{amomax_w, div, mulhu};
 use leavnnjar::gpr::Gpr;
@@ -108,6 +110,14 @@ fn csrs() -> Result<(), Refusal> {
             Some(bit) => println!("  interrupt in {mode:?}           {bit}"),
             None => println!("  interrupt in {mode:?}           none"),
         }
+    }
+
+    // The timer of M-mode is a device: the host raises its bit, which no CSR write reaches.
+    csr.write_register(MIE, both | MIP_MTIP, PrivMode::M)?;
+    csr.raise_interrupt(MIP_MTIP);
+    match csr.pending_interrupt(PrivMode::M) {
+        Some(bit) => println!("  timer raised, in M       {bit}"),
+        None => println!("  timer raised, in M       none"),
     }
 
     // There is no CSR 0x7ff.

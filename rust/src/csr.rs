@@ -24,6 +24,43 @@
 //! assert_eq!(csr.pending_interrupt(PrivMode::U), Some(1));
 //! # Ok::<(), Refusal>(())
 //! ```
+//!
+//! What no CSR write reaches is the host's to set: the interrupts that devices raise, the counters
+//! and the number of the hart.
+//!
+//! ```
+//! use leavnnjar::Refusal;
+//! use leavnnjar::csr::{Csr, MHARTID, MIE, MIP_MEIP, MIP_MTIP, MSTATUS, MSTATUS_MIE, PrivMode, TIME};
+//!
+//! let mut csr = Csr::new();
+//! csr.set_hart_id(1);
+//! assert_eq!(csr.read_register(MHARTID, PrivMode::M)?, 1);
+//!
+//! // The guest enables the timer's interrupt, and another device's.
+//! csr.write_register(MIE, MIP_MTIP | MIP_MEIP, PrivMode::M)?;
+//! csr.write_register(MSTATUS, MSTATUS_MIE, PrivMode::M)?;
+//!
+//! // The board's clock goes on. From 10 on its line is up.
+//! let deadline = 10;
+//! while csr.pending_interrupt(PrivMode::M).is_none() {
+//!     csr.set_cycle(csr.cycle().wrapping_add(100));
+//!     csr.set_time(csr.time().wrapping_add(1));
+//!     if csr.time() >= deadline {
+//!         csr.raise_interrupt(MIP_MTIP);
+//!     }
+//! }
+//! assert_eq!(csr.pending_interrupt(PrivMode::M), Some(7));
+//! assert_eq!((csr.read_register(TIME, PrivMode::U)?, csr.cycle()), (10, 1000));
+//!
+//! // The other device's interrupt comes before the timer's.
+//! csr.raise_interrupt(MIP_MEIP);
+//! assert_eq!(csr.pending_interrupt(PrivMode::M), Some(11));
+//! csr.clear_interrupt(MIP_MTIP | MIP_MEIP);
+//! assert_eq!((csr.mip(), csr.pending_interrupt(PrivMode::M)), (0, None));
+//! # Ok::<(), Refusal>(())
+//! ```
+
+mod fields;
 
 use crate::answers::{Refusal, done};
 use crate::door;
@@ -209,9 +246,6 @@ impl Csr {
     }
 
     /// The CSR file that these words hold, in the order of [`Csr::words`]. Any words will do.
-    ///
-    /// What no CSR write reaches is set so: the bits of mip that devices raise, the counters and
-    /// the number of the hart.
     #[inline]
     pub fn from_words(words: [u64; 136]) -> Self {
         Self { words }
@@ -224,6 +258,23 @@ impl Csr {
     #[inline]
     pub fn words(&self) -> &[u64; 136] {
         &self.words
+    }
+
+    /// The whole state, to be changed. Any words will do.
+    ///
+    /// Those that are one word of their own have a name beside: see [`Csr::set_mip`] and the like.
+    ///
+    /// ```
+    /// use leavnnjar::csr::{Csr, PrivMode};
+    ///
+    /// // pmpaddr begins with word 39. Its CSRs begin with 0x3B0.
+    /// let mut csr = Csr::new();
+    /// csr.words_mut()[39..103].fill(7);
+    /// assert_eq!(csr.read_register(0x3EF, PrivMode::M), Ok(7));
+    /// ```
+    #[inline]
+    pub fn words_mut(&mut self) -> &mut [u64; 136] {
+        &mut self.words
     }
 
     /// A CSR. Refused are an address that is not listed, and SATP from S-mode while TVM is set; no

@@ -54,7 +54,31 @@ impl Gpr {
         &self.words
     }
 
+    /// The whole state, to be changed. Any words will do; x0 reads 0 whatever its word is.
+    ///
+    /// ```
+    /// use leavnnjar::gpr::Gpr;
+    ///
+    /// // A saved hart comes back: x1 to x31 and pc, as they were written down.
+    /// let saved: [u64; 32] = std::array::from_fn(|i| 100 + i as u64);
+    /// let mut regs = Gpr::new(0);
+    /// regs.words_mut()[1..33].copy_from_slice(&saved);
+    /// assert_eq!((regs.read(1), regs.read(31), regs.pc()), (Ok(100), Ok(130), 131));
+    /// ```
+    #[inline]
+    pub fn words_mut(&mut self) -> &mut [u64; 65] {
+        &mut self.words
+    }
+
     /// The program counter.
+    ///
+    /// ```
+    /// use leavnnjar::gpr::Gpr;
+    ///
+    /// let mut regs = Gpr::new(0x8000_0000);
+    /// regs.set_pc(regs.pc().wrapping_add(4));
+    /// assert_eq!(regs.pc(), 0x8000_0004);
+    /// ```
     #[inline]
     pub fn pc(&self) -> u64 {
         self.words[PC]

@@ -2,6 +2,7 @@
 //! state compared after each call.
 
 mod call;
+mod fields;
 mod inputs;
 mod interrupts;
 
@@ -30,6 +31,7 @@ pub fn compare(seed: u64) -> Tally {
     let mut random = Random::new(seed);
 
     modes(&mut tally, &mut random);
+    fields::compare(&mut tally, &mut random);
     let reset = new(&mut tally, &mut random);
 
     // From the reset state first: what differs there is the easiest to read.
