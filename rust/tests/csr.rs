@@ -2,6 +2,7 @@
 //! state compared after each call.
 
 mod call;
+mod constants;
 mod fields;
 mod inputs;
 mod interrupts;
@@ -30,6 +31,7 @@ pub fn compare(seed: u64) -> Tally {
     let mut tally = Tally::new("csr");
     let mut random = Random::new(seed);
 
+    constants::compare(&mut tally);
     modes(&mut tally, &mut random);
     fields::compare(&mut tally, &mut random);
     let reset = new(&mut tally, &mut random);
@@ -239,23 +241,4 @@ fn run<L: Library>(tally: &mut Tally, start: &Words, calls: impl IntoIterator<It
 fn changed(before: &Words, after: &Words) -> Vec<(usize, u64)> {
     let differs = |&i: &usize| before[i] != after[i];
     (0..136).filter(differs).map(|i| (i, after[i])).collect()
-}
-
-/// The wrapper's constants are the original's.
-macro_rules! same {
-    ($($name:ident)*) => {
-        $(const _: () = assert!(ours::$name == original::$name);)*
-    };
-}
-
-same! {
-    MSTATUS MISA MEDELEG MIDELEG MIE MTVEC MCOUNTEREN MCOUNTINHIBIT MSCRATCH MEPC MCAUSE MTVAL MIP
-    MENVCFG MCONFIGPTR
-    SSTATUS SIE STVEC SCOUNTEREN SENVCFG SSCRATCH SEPC SCAUSE STVAL SIP SATP
-    CYCLE TIME INSTRET MCYCLE MINSTRET
-    MVENDORID MARCHID MIMPID MHARTID
-    MSTATUS_SIE MSTATUS_MIE MSTATUS_SPIE MSTATUS_UBE MSTATUS_MPIE MSTATUS_SPP MSTATUS_VS MSTATUS_MPP
-    MSTATUS_FS MSTATUS_XS MSTATUS_MPRV MSTATUS_SUM MSTATUS_MXR MSTATUS_TVM MSTATUS_TW MSTATUS_TSR
-    MSTATUS_UXL MSTATUS_SXL MSTATUS_SBE MSTATUS_MBE MSTATUS_SD
-    MIP_SSIP MIP_MSIP MIP_STIP MIP_MTIP MIP_SEIP MIP_MEIP
 }

@@ -7,9 +7,9 @@ mod history;
 mod loose;
 mod states;
 
-use leavnnjar::mmu::Mmu;
+use leavnnjar::mmu::{self as ours, Mmu};
 use oracle::counted::Counted;
-use oracle::mmu::Mmu as Original;
+use oracle::mmu::{self as original, Mmu as Original};
 use oracle::system_bus::SystemBus;
 
 use crate::common::{Random, Tally};
@@ -37,6 +37,7 @@ pub fn compare(seed: u64) -> Tally {
     let mut tally = Tally::new("mmu");
     let mut random = Random::new(seed);
 
+    faults(&mut tally);
     let reset = new(&mut tally, &mut random);
     for round in 0..ROUNDS {
         for length in lengths() {
@@ -63,6 +64,28 @@ pub fn compare(seed: u64) -> Tally {
 /// The lengths of a guest's memory: from one entry to 16 tables.
 fn lengths() -> impl Iterator<Item = usize> {
     (3..=16).map(|power| 1 << power)
+}
+
+/// The wrapper's own account of a fault: each kind's code and value.
+fn faults(tally: &mut Tally) {
+    use ours::MmuFault::{InstructionPageFault, LoadPageFault, StorePageFault};
+
+    let kinds = [InstructionPageFault, LoadPageFault, StorePageFault];
+    for address in [0, 0x123, 0x8000_0000_0000_0000, u64::MAX] {
+        for fault in kinds.map(|kind| kind(address)) {
+            let same = match fault {
+                InstructionPageFault(a) => original::MmuFault::InstructionPageFault(a),
+                LoadPageFault(a) => original::MmuFault::LoadPageFault(a),
+                StorePageFault(a) => original::MmuFault::StorePageFault(a),
+            };
+            tally.calls("fault", 1);
+            let answer = (fault.mcause(), fault.tval());
+            let expected = (same.mcause(), same.tval());
+            if answer != expected {
+                tally.differ("fault", fault, answer, "original", expected);
+            }
+        }
+    }
 }
 
 /// The state at the start, made over words that are not 0, and by the wrapper.
