@@ -6,8 +6,8 @@
 
 // Sound, and every function safe to call, because the library's functions are proved for any input:
 // they return, they touch nothing but what is lent here, and they write only what is lent as
-// `&mut`. What no proof covers is that these lines say the same as the library's own: the
-// differential tests do.
+// `&mut`. What no proof covers is that these lines say the same as the library's own: `../signatures`
+// holds them to it.
 unsafe extern "C" {
     // Decode: a word.
     pub safe fn rv_opcode(word: u32) -> u32;
