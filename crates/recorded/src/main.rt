@@ -112,7 +112,7 @@ fn call(
 fn plain(line: Line) -> Told {
     let letter = line.letter;
     match letter {
-        b't' => causes::replay(line.function, line.a),
+        b't' => causes::replay(line.function, line.a, line.b),
         b'd' => fields::replay(line.function, line.a, line.b, line.x),
         b'e' => arithmetic::replay(line.function, line.a, line.b),
         _ => told::only(told::UNREAD),
