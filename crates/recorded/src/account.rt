@@ -5,7 +5,7 @@ use crate::told;
 use crate::told::Told;
 use libc::STDOUT_FILENO;
 
-pub struct Account {
+pub(crate) struct Account {
     pub answers: u64,
     pub differ: u64,
     pub all: u64,
@@ -14,7 +14,7 @@ pub struct Account {
 }
 
 // Takes a line in. One that is not as the list says is shown with its number.
-pub fn note(account: Account, line: Line, told: Told, number: u64, text: &[u8]) -> Account {
+pub(crate) fn note(account: Account, line: Line, told: Told, number: u64, text: &[u8]) -> Account {
     let mut next = account;
     if told.shape == told::REMARK {
         return next;
@@ -33,7 +33,7 @@ pub fn note(account: Account, line: Line, told: Told, number: u64, text: &[u8]) 
 }
 
 // A module is over: writes its answers, after its name, and adds them to the others.
-pub fn close(account: Account, name: &[u8]) -> Account {
+pub(crate) fn close(account: Account, name: &[u8]) -> Account {
     row(name, account.answers, account.differ);
     Account {
         answers: 0,
@@ -44,7 +44,7 @@ pub fn close(account: Account, name: &[u8]) -> Account {
     }
 }
 
-pub fn report(account: Account) {
+pub(crate) fn report(account: Account) {
     row(b"total", account.all, account.all_differ);
     io::print_decimal(STDOUT_FILENO, account.unread);
     io::write_all(STDOUT_FILENO, b" lines not understood\n");

@@ -5,7 +5,7 @@ use trap::StepResult;
 use trap::TrapCause;
 
 // 0 to 7: a cause; 8: a step that goes on; 9: one that traps, with the cause's number and the word; a: one that halts.
-pub fn replay(function: u64, a: u64, b: u64) -> Told {
+pub(crate) fn replay(function: u64, a: u64, b: u64) -> Told {
     if function < 8 {
         return cause(cause_of(function, (a % 0x1_0000_0000) as u32));
     }

@@ -10,7 +10,7 @@ use csr::PrivMode;
 use csr::Written;
 
 // 0: new; 1: words are set; 2: a read; 3: a write; 4: an interrupt choice; 5: a mode.
-pub fn replay(list: &[u8], line: Line, words: &mut [u64; 136]) -> Told {
+pub(crate) fn replay(list: &[u8], line: Line, words: &mut [u64; 136]) -> Told {
     let before = *words;
     let file = Csr { words: before };
     let written = write(line.function, line.a, line.b, line.c, file);

@@ -6,7 +6,7 @@ use decode::Extension;
 use decode::Instruction;
 
 // 0 to 9: fields of a word; a to e: its immediates; f to 14: fields of a halfword; 15: sign extension. x is what the line says.
-pub fn replay(function: u64, a: u64, b: u64, x: u64) -> Told {
+pub(crate) fn replay(function: u64, a: u64, b: u64, x: u64) -> Told {
     let word = Instruction((a % 0x1_0000_0000) as u32);
     if function < 0xa {
         return told::values(0x11, field(function, word), 0, 0);

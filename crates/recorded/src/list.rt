@@ -4,15 +4,15 @@ ghost use Prim.Native.Nat.{_≤_, _<_};
 ghost use lib.ListN.{length};
 
 // A number in the list, if there is one: how many are found, 1 or 0, and where the rest of the line begins.
-pub struct Number {
-    pub found: u64,
-    pub value: u64,
-    pub next: usize,
+struct Number {
+    found: u64,
+    value: u64,
+    next: usize,
 }
 
 // A line but for the words that it changed, which begin at `rest`. What is not there is 0. The shape says which columns are there: its
 // first hexadecimal digit is 1, 3, 7 or f where there are one, two, three or four inputs, its second the same for the answers.
-pub struct Line {
+pub(crate) struct Line {
     pub letter: u8,
     pub function: u64,
     pub shape: u64,
@@ -27,7 +27,7 @@ pub struct Line {
 }
 
 // The line that begins at a place of the list.
-pub fn read_line(list: &[u8], at: usize) -> Line
+pub(crate) fn read_line(list: &[u8], at: usize) -> Line
     requires { ⌜ at < length (now list) ⌝ }
 {
     let letter = list[at];
@@ -57,7 +57,7 @@ pub fn read_line(list: &[u8], at: usize) -> Line
 }
 
 // Where the line after this one begins.
-pub fn next_line(list: &[u8], at: usize) -> usize
+pub(crate) fn next_line(list: &[u8], at: usize) -> usize
     requires { ⌜ at < length (now list) ⌝ }
     ensures { λ r. ⌜ (at < r) × (r ≤ length (now (list .entry))) ⌝ }
 {
@@ -69,7 +69,7 @@ pub fn next_line(list: &[u8], at: usize) -> usize
 }
 
 // Whether the line ends here.
-pub fn is_end(list: &[u8], at: usize) -> bool {
+pub(crate) fn is_end(list: &[u8], at: usize) -> bool {
     if at < list.len() {
         list[at] == b'\n'
     } else {
@@ -79,7 +79,7 @@ pub fn is_end(list: &[u8], at: usize) -> bool {
 
 // Puts the words that a line says were changed where they belong. Whether the line then ends: it does where it names words that there are,
 // and each at most once.
-pub fn change(list: &[u8], rest: usize, words: &mut [u64]) -> bool {
+pub(crate) fn change(list: &[u8], rest: usize, words: &mut [u64]) -> bool {
     let mut at = mark(list, rest, b';');
     for _ in 0..words.len() {
         at = put(list, at, words);

@@ -8,7 +8,12 @@ use answers::Reading;
 use answers::Refusal;
 
 // 0: words are set; 1 to 4: reads; 5 to 8: writes; 9: a load. `memory` is room for the memory that the words are.
-pub fn replay(list: &[u8], line: Line, words: &mut [u64; 4096], memory: &mut [u8; 4096]) -> Told {
+pub(crate) fn replay(
+    list: &[u8],
+    line: Line,
+    words: &mut [u64; 4096],
+    memory: &mut [u8; 4096],
+) -> Told {
     hold(memory, words);
     let told = call(memory, line);
     let is_read = list::change(list, line.rest, words);

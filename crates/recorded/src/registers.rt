@@ -9,7 +9,7 @@ use gpr::Reading32;
 use gpr::Written;
 
 // 0: new; 1: words are set; 2 to 5: reads; 6 to 9: writes.
-pub fn replay(list: &[u8], line: Line, words: &mut [u64; 65]) -> Told {
+pub(crate) fn replay(list: &[u8], line: Line, words: &mut [u64; 65]) -> Told {
     let before = held(words);
     let written = write(line.function, line.a, line.b, before);
     let accepted = written.answer;

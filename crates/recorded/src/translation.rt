@@ -15,7 +15,12 @@ use walk::PhysPage;
 use walk::VirtPage;
 
 // 0: new, over a memory of zeros; 1: words are set; 2: a table entry is stored; 3: a flush; 4 to 7: translations.
-pub fn replay(list: &[u8], line: Line, words: &mut [u64; 2055], tables: &mut [u8; 32768]) -> Told {
+pub(crate) fn replay(
+    list: &[u8],
+    line: Line,
+    words: &mut [u64; 2055],
+    tables: &mut [u8; 32768],
+) -> Told {
     if line.function == 2 {
         return store(line, list::is_end(list, line.rest), tables);
     }
