@@ -19,7 +19,8 @@ use Rattle.system_bus.specs.Memory.{powerUpTo, usable}
 use Rattle.walk.specs.Entries.{valid, leaf, allows, aligned}
 use Rattle.walk.specs.Walk.{Memory, entry, indexAt, trail, judge}
 use Rattle.walk.specs.declared.Kind.the-variants.{Load}
-use Rattle.mmu.specs.Cache.{newMmu, callOf, unpaged, accepts, walk, count, serves, live, matches, quick, look, decide, slotAt, shortcutOf, outcome, translate, told}
+use Rattle.mmu.specs.Answers.{translation}
+use Rattle.mmu.specs.Cache.{slotCount, newMmu, callOf, unpaged, accepts, freshWalk, freshCount, serves, live, matches, quick, lookShortcut, lookSlot, look, decide, slotAt, shortcutOf, outcomeOn, translate}
 
 pub record Case : Type 0 where
   pub found : Told ℤ
@@ -38,7 +39,7 @@ naturals f a = record { found = record { number = f .number; values = map pos (f
 
 -- a load that is the first call on a new cache, the root table at 0x1000: the address or the fault's value, then the entries read
 abbrev load : Memory → ℕ → Told ℕ
-load m a = told 512 (newMmu 512) (callOf Load m a 0x8000_0000_0000_0001)
+load m a = translation (translate slotCount (newMmu slotCount) (callOf Load m a 0x8000_0000_0000_0001) .answer)
 
 abbrev answer : ℕ → ℕ → ℕ → Told ℕ
 answer number value reads = record { number = number; values = value ∷ reads ∷ [] }
@@ -87,5 +88,5 @@ starred =
     ∷ []
 
 pub as-asked : map (λ (c : Case). c .found) starred ≡ map (λ (c : Case). c .asked) starred
-unfolding chosen leadingZeros powerUpTo usable valueAt bytesOf valid leaf allows aligned entry indexAt trail judge newMmu unpaged accepts walk count serves live matches quick look decide slotAt shortcutOf outcome translate
+unfolding chosen leadingZeros powerUpTo usable valueAt bytesOf valid leaf allows aligned entry indexAt trail judge newMmu unpaged accepts freshWalk freshCount serves live matches quick lookShortcut lookSlot look decide slotAt shortcutOf outcomeOn translate
 as-asked = refl

@@ -2,16 +2,19 @@
 -- instruction its word, any other nothing.
 use mathlib.Core.List.{[], _∷_}
 use Prim.Native.Nat.{ℕ}
-use Rattle.answers.specs.Told.{Told, refused}
+use Rattle.answers.specs.Told.{Told}
 use Rattle.trap.specs.declared.TrapCause.{TrapCause}
 use Rattle.trap.specs.declared.TrapCause.the-variants.{InstructionAddressMisaligned, IllegalInstruction, Breakpoint, LoadAddressMisaligned, StoreAddressMisaligned, EcallFromUMode, EcallFromSMode, EcallFromMMode}
 
+abbrev code : ℕ → Told ℕ
+code n = record { number = n; values = [] }
+
 abbrev pub cause : TrapCause → Told ℕ
-cause InstructionAddressMisaligned = refused 0
+cause InstructionAddressMisaligned = code 0
 cause (IllegalInstruction word) = record { number = 2; values = word ∷ [] }
-cause Breakpoint = refused 3
-cause LoadAddressMisaligned = refused 4
-cause StoreAddressMisaligned = refused 6
-cause EcallFromUMode = refused 8
-cause EcallFromSMode = refused 9
-cause EcallFromMMode = refused 11
+cause Breakpoint = code 3
+cause LoadAddressMisaligned = code 4
+cause StoreAddressMisaligned = code 6
+cause EcallFromUMode = code 8
+cause EcallFromSMode = code 9
+cause EcallFromMMode = code 11
