@@ -9,7 +9,7 @@ use lib.Dec.{eqb}
 use lib.ListN.{length, getD, take, set, length-append, length-set, List·getD-append}
 use lib.Seq.{set-append-left, take-at, drop-at}
 use Rattle.answers.proofs.Orders.{by-order, by-test}
-use Rattle.gpr.specs.Registers.{withX, withF, shown, readX, readF, readF32, writeX, writeF, readMasked, writeMasked}
+use Rattle.gpr.specs.Registers.{withX, withF, seenX, readX, readF, readF32, writeX, writeF, readMasked, writeMasked}
 use Rattle.gpr.specs.declared.Gpr.{Gpr}
 use Rattle.host.specs.Registers.{wordsOf, floats, withFloats}
 
@@ -43,7 +43,7 @@ module _ (g : Gpr) (n : length (g .x) ≡ 32) where
       (λ h. rw (le-ltb 31 r h, at r (omega arith)))
 
   pub read-masked-agrees : (r : ℕ) → readMasked (wordsOf g) r ≡ readMasked (g .x) r
-  read-masked-agrees r = ap (shown (r % 32)) (at (r % 32) (omega arith))
+  read-masked-agrees r = ap (seenX (r % 32)) (at (r % 32) (omega arith))
 
   pub write-agrees : (r v : ℕ) → writeX (wordsOf g) r v ≡ wordsOf (withX g (writeX (g .x) r v))
   write-agrees r v = by-order 31 r

@@ -1,7 +1,7 @@
 // The registers, as 65 words: x0 to x31, pc, f0 to f31.
 ghost use mathlib.Core.Path.{_≡_};
 ghost use Rattle.answers.specs.Gave.{Gave};
-ghost use Rattle.gpr.specs.Registers.{resetGpr, readX, readF, readF32, wrote, writeX, writeF, writeF32, readMasked, writeMasked};
+ghost use Rattle.gpr.specs.Registers.{resetGpr, readX, readF, readF32, registerAnswer, writeX, writeF, writeF32, readMasked, writeMasked};
 ghost use Rattle.host.specs.Registers.{wordsOf, floats, withFloats};
 use answers::Refusal;
 
@@ -31,7 +31,7 @@ pub extern "C" fn rv_gpr_read(regs: &[u64; 65], reg: usize, out: &mut u64) -> u3
 
 #[no_mangle]
 pub extern "C" fn rv_gpr_write(regs: &mut [u64; 65], reg: usize, value: u64) -> u32
-    ensures { λ r. ⌜ (r ≡ wrote reg .number) × (now (regs .exit) ≡ writeX (now (regs .entry)) reg value) ⌝ }
+    ensures { λ r. ⌜ (r ≡ registerAnswer reg .number) × (now (regs .exit) ≡ writeX (now (regs .entry)) reg value) ⌝ }
 {
     if 31 < reg {
         return Refusal::Register.number();
@@ -73,7 +73,7 @@ pub extern "C" fn rv_gpr_read_f(regs: &[u64; 65], reg: usize, out: &mut u64) -> 
 
 #[no_mangle]
 pub extern "C" fn rv_gpr_write_f(regs: &mut [u64; 65], reg: usize, value: u64) -> u32
-    ensures { λ r. ⌜ (r ≡ wrote reg .number) × (now (regs .exit) ≡ withFloats (now (regs .entry)) (writeF (floats (now (regs .entry))) reg value)) ⌝ }
+    ensures { λ r. ⌜ (r ≡ registerAnswer reg .number) × (now (regs .exit) ≡ withFloats (now (regs .entry)) (writeF (floats (now (regs .entry))) reg value)) ⌝ }
 {
     if 31 < reg {
         return Refusal::Register.number();
@@ -95,7 +95,7 @@ pub extern "C" fn rv_gpr_read_f32(regs: &[u64; 65], reg: usize, out: &mut u32) -
 
 #[no_mangle]
 pub extern "C" fn rv_gpr_write_f32(regs: &mut [u64; 65], reg: usize, value: u32) -> u32
-    ensures { λ r. ⌜ (r ≡ wrote reg .number) × (now (regs .exit) ≡ withFloats (now (regs .entry)) (writeF32 (floats (now (regs .entry))) reg value)) ⌝ }
+    ensures { λ r. ⌜ (r ≡ registerAnswer reg .number) × (now (regs .exit) ≡ withFloats (now (regs .entry)) (writeF32 (floats (now (regs .entry))) reg value)) ⌝ }
 {
     rv_gpr_write_f(regs, reg, gpr::nan_box(value))
 }
