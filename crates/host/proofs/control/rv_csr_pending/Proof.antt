@@ -2,7 +2,7 @@
 -- Assumes nothing.
 use mathlib.Core.Path.{_≡_, sym, ap, _∙_}
 use Prim.Native.Nat.{ℕ}
-use Rattle.answers.specs.Told.{Told, done, accepted}
+use Rattle.answers.specs.Told.{Told, accepted}
 use Rattle.answers.proofs.Gives.{found-value, found-nothing}
 use Rattle.csr.specs.Modes.{modeOf}
 use Rattle.csr.specs.Interrupts.{pending}
@@ -48,24 +48,10 @@ enum-told : tie.Need-enum-told
 enum-told c = search needs
 
 returns-2 : tie.Need-returns-2
-returns-2 c =
-    let w = c .before .before .before
-    in let m = w .before .before .before .before .before
-    in let a = m .before .before .before .before .args
-    in let ws = a .csr .now
-    in let t : done (c .before .bit .given .0 .0) ≡ pendingIn ws (modeOf (a .privilege)) =
-    ap pending (sym (c .before .bit .given .1)) ∙ w .choose-interrupt .ensures ∙ ap (pendingIn ws) (m .from-bits .ensures)
-    in found-value (a .out .now) t
+returns-2 c = found-value _ (ap pending (sym (c .before .bit .given .1)) ∙ c .before .before .before .choose-interrupt .ensures ∙ ap (pendingIn (c .before .before .before .before .before .before .before .before .before .before .before .before .args .csr .now)) (c .before .before .before .before .before .before .before .before .from-bits .ensures))
 
 returns-3 : tie.Need-returns-3
-returns-3 c =
-    let w = c .before .before
-    in let m = w .before .before .before .before .before
-    in let a = m .before .before .before .before .args
-    in let ws = a .csr .now
-    in let t : _≡_ {A = Told ℕ} accepted (pendingIn ws (modeOf (a .privilege))) =
-    ap pending (sym (c .enum-told .given .1)) ∙ w .choose-interrupt .ensures ∙ ap (pendingIn ws) (m .from-bits .ensures)
-    in found-nothing (a .out .now) t
+returns-3 c = found-nothing _ (ap pending (sym (c .enum-told .given .1)) ∙ c .before .before .choose-interrupt .ensures ∙ ap (pendingIn (c .before .before .before .before .before .before .before .before .before .before .before .args .csr .now)) (c .before .before .before .before .before .before .before .from-bits .ensures))
 
 pub rv-csr-pending-spec : {M : Type 1} → statement M
 rv-csr-pending-spec =

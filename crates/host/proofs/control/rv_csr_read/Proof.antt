@@ -1,17 +1,9 @@
 -- `host::control::rv_csr_read` meets its contract: what the read of the word tells. Assumes nothing.
-use mathlib.Core.Path.{_≡_, sym, ap, _∙_}
-use lib.ListN.{getD}
-use Rattle.answers.specs.Refusals.{numberOf}
+use mathlib.Core.Path.{sym, ap, _∙_}
 use Rattle.answers.specs.Answers.{reading}
-use Rattle.answers.specs.Told.{done, refused}
 use Rattle.answers.proofs.Gives.{gave-value, gave-refused}
-use Rattle.csr_list.specs.List.{placeIn}
-use Rattle.csr_list.specs.declared.Place.{Place}
 use Rattle.csr_list.proofs.Places.{held}
-use Rattle.csr.specs.declared.PrivMode.{PrivMode}
-use Rattle.csr.specs.Modes.{modeOf}
-use Rattle.csr.specs.Views.{readOf}
-use Rattle.csr.specs.Registers.{readRegister}
+use Rattle.csr.proofs.Files.{read-here}
 use borrow.Author.Needs.{needs}
 use Rattle.host.proofs.control.rv_csr_read.Statement.{statement}
 use Rattle.host.proofs.control.rv_csr_read.Tie as tie
@@ -50,32 +42,10 @@ number-requires : tie.Need-number-requires
 number-requires c κs = search needs
 
 returns : tie.Need-returns
-returns c =
-    let w = c .before .before .before
-    in let m = w .before .before .before .before
-    in let a = m .before .before .before .args
-    in let ws = a .csr .now
-    in let place = m .before .place-in .ensures .0 ∙ ap placeIn (m .before .before .entry-of .ensures .0) ∙ held (a .address)
-    in let x = c .before .value .given
-    in let t : done (x .0 .0) ≡ readRegister ws (a .address) (modeOf (a .privilege)) =
-    ap reading (sym (x .1)) ∙ w .read-word .ensures
-    ∙ ap (λ (q : Place). readOf (q .view) (getD ws (q .word) 0) (getD ws 3 0) (getD ws 0 0) (m .from-bits .result)) place
-    ∙ ap (λ (k : PrivMode). readRegister ws (a .address) k) (m .from-bits .ensures)
-    in gave-value (a .out .now) t
+returns c = gave-value _ (ap reading (sym (c .before .value .given .1)) ∙ read-here (c .before .before .before .before .before .before .before .before .before .before .args .csr .now) _ (held _ (c .before .before .before .before .before .before .before .before .before .entry-of .ensures .0) (c .before .before .before .before .before .before .before .before .place-in .ensures .0)) (c .before .before .before .before .before .before .before .from-bits .ensures) (c .before .before .before .read-word .ensures))
 
 returns-2 : tie.Need-returns-2
-returns-2 c =
-    let w = c .before .before .before .before
-    in let m = w .before .before .before .before
-    in let a = m .before .before .before .args
-    in let ws = a .csr .now
-    in let place = m .before .place-in .ensures .0 ∙ ap placeIn (m .before .before .entry-of .ensures .0) ∙ held (a .address)
-    in let x = c .before .before .refusal .given
-    in let t : refused (numberOf (x .0 .0)) ≡ readRegister ws (a .address) (modeOf (a .privilege)) =
-    ap reading (sym (x .1)) ∙ w .read-word .ensures
-    ∙ ap (λ (q : Place). readOf (q .view) (getD ws (q .word) 0) (getD ws 3 0) (getD ws 0 0) (m .from-bits .result)) place
-    ∙ ap (λ (k : PrivMode). readRegister ws (a .address) k) (m .from-bits .ensures)
-    in gave-refused (a .out .now) (c .number .ensures) t
+returns-2 c = gave-refused _ (c .number .ensures) (ap reading (sym (c .before .before .refusal .given .1)) ∙ read-here (c .before .before .before .before .before .before .before .before .before .before .before .args .csr .now) _ (held _ (c .before .before .before .before .before .before .before .before .before .before .entry-of .ensures .0) (c .before .before .before .before .before .before .before .before .before .place-in .ensures .0)) (c .before .before .before .before .before .before .before .before .from-bits .ensures) (c .before .before .before .before .read-word .ensures))
 
 pub rv-csr-read-spec : {M : Type 1} → statement M
 rv-csr-read-spec =
