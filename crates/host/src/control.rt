@@ -1,4 +1,4 @@
-// The CSR file, as 136 words in the order of the fields of csr.rs. A call touches the word that its address names, mideleg and mstatus.
+// The CSR file, as words in the order of the fields of csr.rs. A call touches the word that its address names, mideleg and mstatus.
 ghost use mathlib.Core.Path.{_≡_};
 ghost use Rattle.answers.specs.Gave.{Gave, Found};
 ghost use Rattle.csr.specs.Modes.{modeOf};
@@ -6,25 +6,36 @@ ghost use Rattle.csr.specs.Registers.{resetWords, readRegister, newWord, writeR
 use answers::Reading;
 use csr::Pending;
 use csr::PrivMode;
+use csr_list::MIDELEG_WORD;
+use csr_list::MIE_WORD;
+use csr_list::MIP_WORD;
+use csr_list::MISA_WORD;
+use csr_list::MSTATUS_WORD;
+use csr_list::WORDS;
 
 #[no_mangle]
-pub extern "C" fn rv_csr_new(csr: &mut [u64; 136])
+pub extern "C" fn rv_csr_new(csr: &mut [u64; WORDS])
     ensures { λ r. ⌜ now (csr .exit) ≡ resetWords ⌝ }
 {
-    *csr = [0u64; 136];
-    csr[0] = 0xA_0000_0000;
-    csr[1] = 0x8000_0000_0014_112D;
+    *csr = [0u64; WORDS];
+    csr[MSTATUS_WORD] = 0xA_0000_0000;
+    csr[MISA_WORD] = 0x8000_0000_0014_112D;
 }
 
 #[no_mangle]
-pub extern "C" fn rv_csr_read(csr: &[u64; 136], address: u32, privilege: u64, out: &mut u64) -> u32
+pub extern "C" fn rv_csr_read(
+    csr: &[u64; WORDS],
+    address: u32,
+    privilege: u64,
+    out: &mut u64,
+) -> u32
     ensures { λ r. ⌜ Gave (readRegister (now (csr .entry)) address (modeOf privilege)) (now (out .entry)) r (now (out .exit)) ⌝ }
 {
     let place = csr_list::place_in(csr_list::entry_of(address));
     let at = place.word;
     let view = place.view;
     let mode = PrivMode::from_bits(privilege);
-    match csr::read_word(view, csr[at], csr[3], csr[0], mode) {
+    match csr::read_word(view, csr[at], csr[MIDELEG_WORD], csr[MSTATUS_WORD], mode) {
         Reading::Value(value) => {
             *out = value;
             0
@@ -35,7 +46,7 @@ pub extern "C" fn rv_csr_read(csr: &[u64; 136], address: u32, privilege: u64, ou
 
 #[no_mangle]
 pub extern "C" fn rv_csr_write(
-    csr: &mut [u64; 136],
+    csr: &mut [u64; WORDS],
     address: u32,
     value: u64,
     privilege: u64,
@@ -46,7 +57,14 @@ pub extern "C" fn rv_csr_write(
     let at = place.word;
     let view = place.view;
     let mode = PrivMode::from_bits(privilege);
-    match csr::write_word(view, csr[at], value, csr[3], csr[0], mode) {
+    match csr::write_word(
+        view,
+        csr[at],
+        value,
+        csr[MIDELEG_WORD],
+        csr[MSTATUS_WORD],
+        mode,
+    ) {
         Reading::Value(word) => {
             csr[at] = word;
             0
@@ -56,15 +74,21 @@ pub extern "C" fn rv_csr_write(
 }
 
 #[no_mangle]
-pub extern "C" fn rv_csr_pending(csr: &[u64; 136], privilege: u64, out: &mut u64) -> bool
+pub extern "C" fn rv_csr_pending(csr: &[u64; WORDS], privilege: u64, out: &mut u64) -> bool
     ensures { λ r. ⌜ Found (pendingIn (now (csr .entry)) (modeOf privilege)) (now (out .entry)) r (now (out .exit)) ⌝ }
 {
     // Most calls end here, before the mode is made.
-    if csr[12] & csr[4] == 0 {
+    if csr[MIP_WORD] & csr[MIE_WORD] == 0 {
         return false;
     }
     let mode = PrivMode::from_bits(privilege);
-    match csr::choose_interrupt(csr[12], csr[4], csr[3], csr[0], mode) {
+    match csr::choose_interrupt(
+        csr[MIP_WORD],
+        csr[MIE_WORD],
+        csr[MIDELEG_WORD],
+        csr[MSTATUS_WORD],
+        mode,
+    ) {
         Pending::Bit(bit) => {
             *out = bit;
             true
