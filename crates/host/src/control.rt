@@ -4,6 +4,7 @@ ghost use Rattle.answers.specs.Gave.{Gave, Found};
 ghost use Rattle.csr.specs.Modes.{modeOf};
 ghost use Rattle.csr.specs.Registers.{resetWords, readRegister, newWord, writeRegister, pendingIn};
 use answers::Reading;
+use csr::Csr;
 use csr::Pending;
 use csr::PrivMode;
 use csr_list::MIDELEG_WORD;
@@ -18,8 +19,8 @@ pub extern "C" fn rv_csr_new(csr: &mut [u64; WORDS])
     ensures { λ r. ⌜ now (csr .exit) ≡ resetWords ⌝ }
 {
     *csr = [0u64; WORDS];
-    csr[MSTATUS_WORD] = 0xA_0000_0000;
-    csr[MISA_WORD] = 0x8000_0000_0014_112D;
+    csr[MSTATUS_WORD] = Csr::MSTATUS_RESET;
+    csr[MISA_WORD] = Csr::MISA_RESET;
 }
 
 #[no_mangle]
