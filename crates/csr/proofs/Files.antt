@@ -12,29 +12,29 @@ use Rattle.answers.specs.declared.Reading.the-variants.{Value, Refused}
 use Rattle.answers.specs.declared.Refusal.{Refusal}
 use Rattle.csr_list.specs.List.{placeOf}
 use Rattle.csr_list.specs.declared.Place.{Place}
-use Rattle.csr.specs.Views.{readOf, writeOf}
-use Rattle.csr.specs.Registers.{mstatusIn, midelegIn, readRegister, newWord, wrote, stored, writeRegister}
+use Rattle.csr.specs.Views.{readThrough, writeThrough}
+use Rattle.csr.specs.Registers.{mstatusIn, midelegIn, readRegister, newWord, csrAnswer, stored, writeRegister}
 use Rattle.csr.specs.declared.PrivMode.{PrivMode}
 
 module _ (ws : List ℕ) (a : ℕ) {p : Place} {k mode : PrivMode} (e : p ≡ placeOf a) (f : k ≡ mode) where
   -- what a read tells, and which word a write leaves
-  pub read-here : {t : Told ℕ} → t ≡ readOf (p .view) (getD ws (p .word) 0) (midelegIn ws) (mstatusIn ws) k → t ≡ readRegister ws a mode
-  read-here r = r ∙ (λ i. readOf (e i .view) (getD ws (e i .word) 0) (midelegIn ws) (mstatusIn ws) (f i))
+  pub read-here : {t : Told ℕ} → t ≡ readThrough (p .view) (getD ws (p .word) 0) (midelegIn ws) (mstatusIn ws) k → t ≡ readRegister ws a mode
+  read-here r = r ∙ (λ i. readThrough (e i .view) (getD ws (e i .word) 0) (midelegIn ws) (mstatusIn ws) (f i))
 
-  new-here : (v : ℕ) {t : Told ℕ} → t ≡ writeOf (p .view) (getD ws (p .word) 0) v (midelegIn ws) (mstatusIn ws) k → t ≡ newWord ws a v mode
-  new-here v r = r ∙ (λ i. writeOf (e i .view) (getD ws (e i .word) 0) v (midelegIn ws) (mstatusIn ws) (f i))
+  new-here : (v : ℕ) {t : Told ℕ} → t ≡ writeThrough (p .view) (getD ws (p .word) 0) v (midelegIn ws) (mstatusIn ws) k → t ≡ newWord ws a v mode
+  new-here v r = r ∙ (λ i. writeThrough (e i .view) (getD ws (e i .word) 0) v (midelegIn ws) (mstatusIn ws) (f i))
 
   -- an answer x of a write, by cases
-  module _ (v : ℕ) {x : Reading} (r : reading x ≡ writeOf (p .view) (getD ws (p .word) 0) v (midelegIn ws) (mstatusIn ws) k) where
-    pub write-value : {n : ℕ} → x ≡ Value n → (accepted ≡ wrote (newWord ws a v mode)) × (set ws (p .word) n ≡ writeRegister ws a v mode)
+  module _ (v : ℕ) {x : Reading} (r : reading x ≡ writeThrough (p .view) (getD ws (p .word) 0) v (midelegIn ws) (mstatusIn ws) k) where
+    pub write-value : {n : ℕ} → x ≡ Value n → (accepted ≡ csrAnswer (newWord ws a v mode)) × (set ws (p .word) n ≡ writeRegister ws a v mode)
     write-value {n} g =
         let t : done n ≡ newWord ws a v mode = ap reading (sym g) ∙ new-here v r
-        in (ap wrote t, ap (λ (q : Place). set ws (q .word) n) e ∙ ap (λ (u : Told ℕ). stored (u .values) ws (placeOf a .word)) t)
+        in (ap csrAnswer t, ap (λ (q : Place). set ws (q .word) n) e ∙ ap (λ (u : Told ℕ). stored (u .values) ws (placeOf a .word)) t)
 
-    pub write-refused : {y : Refusal} → x ≡ Refused y → (refused (numberOf y) ≡ wrote (newWord ws a v mode)) × (ws ≡ writeRegister ws a v mode)
+    pub write-refused : {y : Refusal} → x ≡ Refused y → (refused (numberOf y) ≡ csrAnswer (newWord ws a v mode)) × (ws ≡ writeRegister ws a v mode)
     write-refused {y} g =
         let t : refused (numberOf y) ≡ newWord ws a v mode = ap reading (sym g) ∙ new-here v r
-        in (ap wrote t, ap (λ (u : Told ℕ). stored (u .values) ws (placeOf a .word)) t)
+        in (ap csrAnswer t, ap (λ (u : Told ℕ). stored (u .values) ws (placeOf a .word)) t)
 
 -- the same where the answer is its number
 pub by-number : {t : Told ℕ} {r n : ℕ} {P : Type 0} → r ≡ t .number → (t ≡ refused n) × P → (r ≡ n) × P

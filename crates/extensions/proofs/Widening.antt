@@ -13,7 +13,7 @@ use lib.Signed.{ltZ}
 use Rattle.answers.specs.Bits.{signed, low, extended}
 use Rattle.answers.proofs.Orders.{by-order}
 use Rattle.answers.proofs.Signs.{signed-below, signed-above, low-extended}
-use Rattle.extensions.specs.Atomic.{applied}
+use Rattle.extensions.specs.Atomic.{amoResult}
 use Rattle.extensions.specs.declared.Amo.{Amo}
 use Rattle.extensions.specs.declared.Amo.the-variants.{Swap, Add, Xor, And, Or, Min, Max, Minu, Maxu}
 use Rattle.extensions.proofs.SignedOrder.{same-order}
@@ -63,7 +63,7 @@ module _ (j k : ℕ) (e : j + k ≡ 64) (h : 0 < k) where
       let s = wide k a + wide k b
       in ap (λ (x : ℕ). s % 2 ^ x % 2 ^ k) (sym e) ∙ mod-mod-pow s j k ∙ add-mod (wide k a) (wide k b) (2 ^ k) ∙ rw (narrow a, narrow b)
 
-  pub commutes : (op : Amo) (a b : ℕ) → applied 64 op (wide k a) (wide k b) % 2 ^ k ≡ applied k op (a % 2 ^ k) (b % 2 ^ k)
+  pub commutes : (op : Amo) (a b : ℕ) → amoResult 64 op (wide k a) (wide k b) % 2 ^ k ≡ amoResult k op (a % 2 ^ k) (b % 2 ^ k)
   commutes Swap a b = narrow b
   commutes Add a b = sum-wide a b
   commutes Xor a b = xor-mod (wide k a) (wide k b) k ∙ rw (narrow a, narrow b)
