@@ -6,7 +6,7 @@ use Prim.Native.Nat.{ℕ}
 use lib.ListN.{getD, set}
 use Rattle.answers.specs.Answers.{reading}
 use Rattle.answers.specs.Refusals.{numberOf}
-use Rattle.answers.specs.Told.{Told, done, accepted, refused}
+use Rattle.answers.specs.Answer.{Answer, done, accepted, refused}
 use Rattle.answers.specs.declared.Reading.{Reading}
 use Rattle.answers.specs.declared.Reading.the-variants.{Value, Refused}
 use Rattle.answers.specs.declared.Refusal.{Refusal}
@@ -18,10 +18,10 @@ use Rattle.csr.specs.declared.PrivMode.{PrivMode}
 
 module _ (ws : List ℕ) (a : ℕ) {p : Place} {k mode : PrivMode} (e : p ≡ placeOf a) (f : k ≡ mode) where
   -- what a read tells, and which word a write leaves
-  pub read-here : {t : Told ℕ} → t ≡ readThrough (p .view) (getD ws (p .word) 0) (midelegIn ws) (mstatusIn ws) k → t ≡ readRegister ws a mode
+  pub read-here : {t : Answer ℕ} → t ≡ readThrough (p .view) (getD ws (p .word) 0) (midelegIn ws) (mstatusIn ws) k → t ≡ readRegister ws a mode
   read-here r = r ∙ (λ i. readThrough (e i .view) (getD ws (e i .word) 0) (midelegIn ws) (mstatusIn ws) (f i))
 
-  new-here : (v : ℕ) {t : Told ℕ} → t ≡ writeThrough (p .view) (getD ws (p .word) 0) v (midelegIn ws) (mstatusIn ws) k → t ≡ newWord ws a v mode
+  new-here : (v : ℕ) {t : Answer ℕ} → t ≡ writeThrough (p .view) (getD ws (p .word) 0) v (midelegIn ws) (mstatusIn ws) k → t ≡ newWord ws a v mode
   new-here v r = r ∙ (λ i. writeThrough (e i .view) (getD ws (e i .word) 0) v (midelegIn ws) (mstatusIn ws) (f i))
 
   -- an answer x of a write, by cases
@@ -29,13 +29,13 @@ module _ (ws : List ℕ) (a : ℕ) {p : Place} {k mode : PrivMode} (e : p ≡ pl
     pub write-value : {n : ℕ} → x ≡ Value n → (accepted ≡ csrAnswer (newWord ws a v mode)) × (set ws (p .word) n ≡ writeRegister ws a v mode)
     write-value {n} g =
         let t : done n ≡ newWord ws a v mode = ap reading (sym g) ∙ new-here v r
-        in (ap csrAnswer t, ap (λ (q : Place). set ws (q .word) n) e ∙ ap (λ (u : Told ℕ). stored (u .values) ws (placeOf a .word)) t)
+        in (ap csrAnswer t, ap (λ (q : Place). set ws (q .word) n) e ∙ ap (λ (u : Answer ℕ). stored (u .values) ws (placeOf a .word)) t)
 
     pub write-refused : {y : Refusal} → x ≡ Refused y → (refused (numberOf y) ≡ csrAnswer (newWord ws a v mode)) × (ws ≡ writeRegister ws a v mode)
     write-refused {y} g =
         let t : refused (numberOf y) ≡ newWord ws a v mode = ap reading (sym g) ∙ new-here v r
-        in (ap csrAnswer t, ap (λ (u : Told ℕ). stored (u .values) ws (placeOf a .word)) t)
+        in (ap csrAnswer t, ap (λ (u : Answer ℕ). stored (u .values) ws (placeOf a .word)) t)
 
 -- the same where the answer is its number
-pub by-number : {t : Told ℕ} {r n : ℕ} {P : Type 0} → r ≡ t .number → (t ≡ refused n) × P → (r ≡ n) × P
-by-number e p = (e ∙ ap (λ (u : Told ℕ). u .number) (p .0), p .1)
+pub by-number : {t : Answer ℕ} {r n : ℕ} {P : Type 0} → r ≡ t .number → (t ≡ refused n) × P → (r ≡ n) × P
+by-number e p = (e ∙ ap (λ (u : Answer ℕ). u .number) (p .0), p .1)

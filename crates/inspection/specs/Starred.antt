@@ -7,7 +7,7 @@ use lib.Count.{leadingZeros}
 use lib.IntN.{ℤ, pos, negℤ}
 use lib.ListN.{replicate}
 use lib.Seq.{sets}
-use Rattle.answers.specs.Told.{Told, done}
+use Rattle.answers.specs.Answer.{Answer, done}
 use Rattle.answers.specs.Bits.{bits}
 use Rattle.decode.specs.Immediates.{immI, immB, immJ}
 use Rattle.extensions.specs.Multiply.{mulhOf, mulhuOf, mulhsuOf}
@@ -23,8 +23,8 @@ use Rattle.mmu.specs.Answers.{translation}
 use Rattle.mmu.specs.Cache.{slotCount, newMmu, callOf, unpaged, accepts, freshWalk, freshCount, serves, live, matches, quick, lookShortcut, lookSlot, look, decide, slotAt, shortcutOf, outcomeOn, translate}
 
 pub record Case : Type 0 where
-  pub found : Told ℤ
-  pub asked : Told ℤ
+  pub found : Answer ℤ
+  pub asked : Answer ℤ
 
 -- a number, and an integer, where nothing is refused
 abbrev number : ℕ → ℕ → Case
@@ -34,14 +34,14 @@ abbrev integer : ℤ → ℤ → Case
 integer f a = record { found = done f; asked = done a }
 
 -- what a call tells, of numbers
-abbrev naturals : Told ℕ → Told ℕ → Case
+abbrev naturals : Answer ℕ → Answer ℕ → Case
 naturals f a = record { found = record { number = f .number; values = map pos (f .values) }; asked = record { number = a .number; values = map pos (a .values) } }
 
 -- a load that is the first call on a new cache, the root table at 0x1000: the address or the fault's value, then the entries read
-abbrev load : Memory → ℕ → Told ℕ
+abbrev load : Memory → ℕ → Answer ℕ
 load m a = translation (translate slotCount (newMmu slotCount) (callOf Load m a 0x8000_0000_0000_0001) .answer)
 
-abbrev answer : ℕ → ℕ → ℕ → Told ℕ
+abbrev answer : ℕ → ℕ → ℕ → Answer ℕ
 answer number value reads = record { number = number; values = value ∷ reads ∷ [] }
 
 -- 16384 bytes, zero, and an entry put into them

@@ -8,7 +8,7 @@ use native.Mathlib.Omega.{arith}
 use borrow.Author.Tests.{eq-eqb}
 use lib.ListN.{length, getD, set, length-set, length-replicate}
 use lib.Seq.{getD-set-same}
-use Rattle.answers.specs.Told.{Told, done, given}
+use Rattle.answers.specs.Answer.{Answer, done, given}
 use Rattle.answers.proofs.Orders.{by-test}
 use Rattle.walk.specs.Entries.{allows}
 use Rattle.walk.specs.Walk.{Reached, found, lost, trailOf}
@@ -69,8 +69,8 @@ fault-number Fetch a e = omega arith
 fault-number Load a e = omega arith
 fault-number Store a e = omega arith
 
-value : {a t : ℕ} → _≡_ {A = Told ℕ} (done a) (done t) → a ≡ t
-value e = ap (λ (u : Told ℕ). given (u .values) 0) e
+value : {a t : ℕ} → _≡_ {A = Answer ℕ} (done a) (done t) → a ≡ t
+value e = ap (λ (u : Answer ℕ). given (u .values) 0) e
 
 found-again : (n : ℕ) (s : Mmu) (c : Call) (t : ℕ) → 0 < n → length (s .tlb) ≡ n → unpaged (c .satp) ≡ false → withoutReads (translate n s c .answer) ≡ done t
     → Finds n (translate n s c .mmu) (c .access) (c .satp) (pageOf (c .address)) (frameOf t)
@@ -84,7 +84,7 @@ found-again n s c t pos size v ok =
     (λ q. by-test (slotHit n s (c .access) page)
     (λ l. rw (u, v, q, l) (in-frame n _ (c .access) (c .satp) page slot (frameOf t) (rw (← value (rw (u, v, q, l) at ok)) (framed slot (c .address))) (remember-found n s (c .access .kind) (c .satp) page slot (λ f. (l, refl)))))
     (λ l. rw (u, v, q, l) (onWalk (freshWalk c) refl (rw (u, v, q, l) at ok)))))
-    (λ u. absurd (let z : 4 ≡ 0 = ap (λ (w : Told ℕ). w .number) (rw u at ok) in omega arith))
+    (λ u. absurd (let z : 4 ≡ 0 = ap (λ (w : Answer ℕ). w .number) (rw u at ok) in omega arith))
   where
     onWalk : (w : Reached) → freshWalk c ≡ w → withoutReads (answerOf (afterWalk c w)) ≡ done t
         → Finds n (applied n s c (afterWalk c w)) (c .access) (c .satp) (pageOf (c .address)) (frameOf t)
@@ -92,7 +92,7 @@ found-again n s c t pos size v ok =
         rw (← value z)
         (remember-found n (fill n s (pageOf (c .address)) (frameOf b) e) (c .access .kind) (c .satp) (pageOf (c .address)) (frameOf b)
         (λ f. fill-hit n s (c .access) (pageOf (c .address)) (frameOf b) e pos size f (sure (c .access) (c .address) (trailOf (c .memory) (c .address) (c .satp) .stop) b e h .allowed)))
-    onWalk lost h z = absurd (fault-number (c .access .kind) (c .address) (ap (λ (w : Told ℕ). w .number) z))
+    onWalk lost h z = absurd (fault-number (c .access .kind) (c .address) (ap (λ (w : Answer ℕ). w .number) z))
 
 -- a state keeps its number of slots
 size-remember : (s : Mmu) (d : Call) (frame : PhysPage) → length (remember s d frame .tlb) ≡ length (s .tlb)
@@ -132,7 +132,7 @@ straight n s d u v = rw (u, v)
 
 accepted-if-done : (n : ℕ) (s : Mmu) (c : Call) (t : ℕ) → withoutReads (translate n s c .answer) ≡ done t → accepts c ≡ true
 unfolding translate outcomeOn decide look lookShortcut lookSlot
-accepted-if-done n s c t ok = by-test (accepts c) (λ u. u) (λ u. absurd (let z : 4 ≡ 0 = ap (λ (w : Told ℕ). w .number) (rw u at ok) in omega arith))
+accepted-if-done n s c t ok = by-test (accepts c) (λ u. u) (λ u. absurd (let z : 4 ≡ 0 = ap (λ (w : Answer ℕ). w .number) (rw u at ok) in omega arith))
 
 again : (n : ℕ) (s : Mmu) (c d : Call) (t : ℕ) → 0 < n → length (s .tlb) ≡ n → withoutReads (translate n s c .answer) ≡ done t
     → Again c d → accepts d ≡ true → d .address < 2 ^ 64 → translate n (translate n s c .mmu) d .answer ≡ At (inFrame (frameOf t) (d .address)) 0

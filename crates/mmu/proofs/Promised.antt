@@ -7,7 +7,7 @@ use native.Mathlib.Omega.{arith}
 use contract.Lifetimes.{Lfts}
 use denote.Triple.Clauses.{AtExit}
 use borrow.Fn.Kinds.{Out, Dens, endedOf}
-use Rattle.answers.specs.Told.{done}
+use Rattle.answers.specs.Answer.{done}
 use Rattle.walk.specs.declared.Kind.{Kind}
 use Rattle.walk.specs.declared.Kind.the-variants.{Fetch, Load, Store}
 use Rattle.mmu.specs.Answers.{translation, withoutReads}

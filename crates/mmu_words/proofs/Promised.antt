@@ -8,7 +8,7 @@ use contract.Lifetimes.{Lfts}
 use denote.Triple.Clauses.{AtExit}
 use borrow.Fn.Kinds.{Out, Dens, endedOf}
 use lib.ListN.{getD}
-use Rattle.answers.specs.Told.{Told, done, given, isGiven}
+use Rattle.answers.specs.Answer.{Answer, done, given, isGiven}
 use Rattle.answers.proofs.Determined.{number-positive}
 use Rattle.walk.specs.Walk.{Reached, found, lost}
 use Rattle.walk.specs.declared.Kind.{Kind}
@@ -98,10 +98,10 @@ module _ (c : Call) {ws old ws′ new : List ℕ} {r : ℕ} (p : Translates c ws
   fresh : c .address < 2 ^ 64 → paged c ≡ true → Undisturbed h c → (r ≡ freshAnswer c .number) × (getD new 0 0 ≡ given (freshAnswer c .values) 0)
   fresh small g u =
       let w : withoutReads answer ≡ freshAnswer c = ap (λ (l : List ℕ). withoutReads (answerOf (outcomeIn l c))) s ∙ words-fresh h c small g u
-      in let i : isGiven (withoutReads answer .values) ≡ true = ap (λ (t : Told ℕ). isGiven (t .values)) w ∙ fresh-given c (freshWalk c)
+      in let i : isGiven (withoutReads answer .values) ≡ true = ap (λ (t : Answer ℕ). isGiven (t .values)) w ∙ fresh-given c (freshWalk c)
       in (
-        p .answer .number ∙ same-number answer ∙ ap (λ (t : Told ℕ). t .number) w,
-        ap (λ (l : List ℕ). getD l 0 0) (p .answer .out) ∙ first-word answer old i ∙ ap (λ (t : Told ℕ). given (t .values) 0) w,
+        p .answer .number ∙ same-number answer ∙ ap (λ (t : Answer ℕ). t .number) w,
+        ap (λ (l : List ℕ). getD l 0 0) (p .answer .out) ∙ first-word answer old i ∙ ap (λ (t : Answer ℕ). given (t .values) 0) w,
       )
 
   free : (d : Call) {ws″ old′ ws‴ new′ : List ℕ} {q : ℕ} → Translates d ws″ old′ q ws‴ new′ → ws″ ≡ ws′

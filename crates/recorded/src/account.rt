@@ -2,7 +2,7 @@
 // understood.
 use crate::list::Line;
 use crate::told;
-use crate::told::Told;
+use crate::told::Answer;
 use libc::STDOUT_FILENO;
 
 pub(crate) struct Account {
@@ -14,7 +14,13 @@ pub(crate) struct Account {
 }
 
 // Takes a line in. One that is not as the list says is shown with its number.
-pub(crate) fn note(account: Account, line: Line, told: Told, number: u64, text: &[u8]) -> Account {
+pub(crate) fn note(
+    account: Account,
+    line: Line,
+    told: Answer,
+    number: u64,
+    text: &[u8],
+) -> Account {
     let mut next = account;
     if told.shape == told::REMARK {
         return next;

@@ -1,11 +1,11 @@
 // extensions.rs.
 use crate::told;
-use crate::told::Told;
+use crate::told::Answer;
 use extensions::AmoD;
 use extensions::AmoW;
 
 // 0 to c: M; d to 15: A on words; 16 to 1e: A on doublewords.
-pub(crate) fn replay(function: u64, a: u64, b: u64) -> Told {
+pub(crate) fn replay(function: u64, a: u64, b: u64) -> Answer {
     if function < 0xd {
         return told::values(0x31, multiply(function, a, b), 0, 0);
     }

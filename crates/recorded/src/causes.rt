@@ -1,11 +1,11 @@
 // trap.rs: the causes by number, in its order; then what a step comes to.
 use crate::told;
-use crate::told::Told;
+use crate::told::Answer;
 use trap::StepResult;
 use trap::TrapCause;
 
 // 0 to 7: a cause; 8: a step that goes on; 9: one that traps, with the cause's number and the word; a: one that halts.
-pub(crate) fn replay(function: u64, a: u64, b: u64) -> Told {
+pub(crate) fn replay(function: u64, a: u64, b: u64) -> Answer {
     if function < 8 {
         return cause(cause_of(function, (a % 0x1_0000_0000) as u32));
     }
@@ -37,7 +37,7 @@ fn cause_of(number: u64, word: u32) -> TrapCause {
 }
 
 // The code, and the word where the cause carries one.
-fn cause(cause: TrapCause) -> Told {
+fn cause(cause: TrapCause) -> Answer {
     let code = cause.mcause_code();
     match cause {
         TrapCause::IllegalInstruction(word) => told::values(0x13, code, word as u64, 0),
@@ -46,7 +46,7 @@ fn cause(cause: TrapCause) -> Told {
 }
 
 // 0 Ok, 1 Trap with the cause's code and word, 2 Halt.
-fn step(result: StepResult) -> Told {
+fn step(result: StepResult) -> Answer {
     match result {
         StepResult::Ok => told::only(0x01),
         StepResult::Trap(cause) => told::values(0x37, 1, cause.mcause_code(), word_of(cause)),

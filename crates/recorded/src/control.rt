@@ -2,7 +2,7 @@
 use crate::list;
 use crate::list::Line;
 use crate::told;
-use crate::told::Told;
+use crate::told::Answer;
 use answers::Acceptance;
 use csr::Csr;
 use csr::Pending;
@@ -10,7 +10,7 @@ use csr::PrivMode;
 use csr::Written;
 
 // 0: new; 1: words are set; 2: a read; 3: a write; 4: an interrupt choice; 5: a mode.
-pub(crate) fn replay(list: &[u8], line: Line, words: &mut [u64; 136]) -> Told {
+pub(crate) fn replay(list: &[u8], line: Line, words: &mut [u64; 136]) -> Answer {
     let before = *words;
     let file = Csr { words: before };
     let written = write(line.function, line.a, line.b, line.c, file);
@@ -42,7 +42,7 @@ fn done(csr: Csr) -> Written {
     }
 }
 
-fn answer(function: u64, a: u64, b: u64, file: Csr, accepted: Acceptance) -> Told {
+fn answer(function: u64, a: u64, b: u64, file: Csr, accepted: Acceptance) -> Answer {
     match function {
         0 => told::acceptance(0x01, accepted),
         1 => told::only(told::REMARK),
@@ -58,7 +58,7 @@ fn answer(function: u64, a: u64, b: u64, file: Csr, accepted: Acceptance) -> Tol
 }
 
 // Whether there is an interrupt, and its bit.
-fn chosen(answer: Pending) -> Told {
+fn chosen(answer: Pending) -> Answer {
     match answer {
         Pending::Bit(bit) => told::values(0x13, 1, bit, 0),
         Pending::Nothing => told::only(0x13),

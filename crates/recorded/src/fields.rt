@@ -1,12 +1,12 @@
 // decode.rs.
 use crate::told;
-use crate::told::Told;
+use crate::told::Answer;
 use decode::CompressedInstruction;
 use decode::Extension;
 use decode::Instruction;
 
 // 0 to 9: fields of a word; a to e: its immediates; f to 14: fields of a halfword; 15: sign extension. x is what the line says.
-pub(crate) fn replay(function: u64, a: u64, b: u64, x: u64) -> Told {
+pub(crate) fn replay(function: u64, a: u64, b: u64, x: u64) -> Answer {
     let word = Instruction((a % 0x1_0000_0000) as u32);
     if function < 0xa {
         return told::values(0x11, field(function, word), 0, 0);
@@ -60,7 +60,7 @@ fn half_field(function: u64, halfword: CompressedInstruction) -> u64 {
     }
 }
 
-fn extension(a: u64, bits: u32, x: u64) -> Told {
+fn extension(a: u64, bits: u32, x: u64) -> Answer {
     match decode::sign_extend(number_of(a), bits) {
         Extension::Value(value) => signed(0x31, value, x),
         Extension::Refused(_) => told::only(told::UNREAD),
@@ -69,7 +69,7 @@ fn extension(a: u64, bits: u32, x: u64) -> Told {
 
 // A signed answer is held to the number that the line's bits stand for, and told as these bits or as others: no cast makes bits of a
 // negative number.
-fn signed(shape: u64, answer: i64, x: u64) -> Told {
+fn signed(shape: u64, answer: i64, x: u64) -> Answer {
     if answer == number_of(x) {
         told::values(shape, x, 0, 0)
     } else {

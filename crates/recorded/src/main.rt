@@ -14,7 +14,7 @@ mod translation;
 use account::Account;
 use libc::STDIN_FILENO;
 use list::Line;
-use told::Told;
+use told::Answer;
 
 // Room for a list three times as long. It is lent as the array that it is, of which no proof is asked how long it is.
 fn main() {
@@ -73,7 +73,7 @@ fn replay(list: &[u8]) {
 }
 
 // Takes a line into the account. '!' ends a module.
-fn taken(account: Account, line: Line, told: Told, number: u64, text: &[u8]) -> Account {
+fn taken(account: Account, line: Line, told: Answer, number: u64, text: &[u8]) -> Account {
     if line.letter == b'!' {
         return account::close(account, name_in(text));
     }
@@ -90,7 +90,7 @@ fn call(
     memory: &mut [u8; 4096],
     mmu: &mut [u64; 2055],
     tables: &mut [u8; 32768],
-) -> Told {
+) -> Answer {
     let letter = line.letter;
     match letter {
         b'#' => told::only(told::REMARK),
@@ -109,7 +109,7 @@ fn call(
 }
 
 // A call with no state: its line ends after the answer.
-fn plain(line: Line) -> Told {
+fn plain(line: Line) -> Answer {
     let letter = line.letter;
     match letter {
         b't' => causes::replay(line.function, line.a, line.b),

@@ -2,7 +2,7 @@
 use crate::list;
 use crate::list::Line;
 use crate::told;
-use crate::told::Told;
+use crate::told::Answer;
 use answers::Acceptance;
 use answers::Reading;
 use answers::Refusal;
@@ -13,7 +13,7 @@ pub(crate) fn replay(
     line: Line,
     words: &mut [u64; 4096],
     memory: &mut [u8; 4096],
-) -> Told {
+) -> Answer {
     hold(memory, words);
     let told = call(memory, line);
     let is_read = list::change(list, line.rest, words);
@@ -21,7 +21,7 @@ pub(crate) fn replay(
 }
 
 // With as many bytes as the line says.
-fn call(memory: &mut [u8], line: Line) -> Told {
+fn call(memory: &mut [u8], line: Line) -> Answer {
     let length = line.a as usize;
     if memory.len() < length {
         return told::only(told::UNREAD);
@@ -29,7 +29,7 @@ fn call(memory: &mut [u8], line: Line) -> Told {
     call_on(&mut memory[0..length], line)
 }
 
-fn call_on(memory: &mut [u8], line: Line) -> Told {
+fn call_on(memory: &mut [u8], line: Line) -> Answer {
     let function = line.function;
     if function == 0 {
         return told::only(told::REMARK);

@@ -2,14 +2,14 @@
 use crate::list;
 use crate::list::Line;
 use crate::told;
-use crate::told::Told;
+use crate::told::Answer;
 use answers::Acceptance;
 use gpr::Gpr;
 use gpr::Reading32;
 use gpr::Written;
 
 // 0: new; 1: words are set; 2 to 5: reads; 6 to 9: writes.
-pub(crate) fn replay(list: &[u8], line: Line, words: &mut [u64; 65]) -> Told {
+pub(crate) fn replay(list: &[u8], line: Line, words: &mut [u64; 65]) -> Answer {
     let before = held(words);
     let written = write(line.function, line.a, line.b, before);
     let accepted = written.answer;
@@ -41,7 +41,7 @@ fn done(gpr: Gpr) -> Written {
     }
 }
 
-fn answer(function: u64, a: u64, gpr: Gpr, accepted: Acceptance) -> Told {
+fn answer(function: u64, a: u64, gpr: Gpr, accepted: Acceptance) -> Answer {
     let reg = a as usize;
     if 9 < function {
         return told::only(told::UNREAD);
@@ -57,7 +57,7 @@ fn answer(function: u64, a: u64, gpr: Gpr, accepted: Acceptance) -> Told {
     }
 }
 
-fn reading32(answer: Reading32) -> Told {
+fn reading32(answer: Reading32) -> Answer {
     match answer {
         Reading32::Value(value) => told::values(0x13, 0, value as u64, 0),
         Reading32::Refused(refusal) => told::values(0x13, refusal.number() as u64, 0, 0),

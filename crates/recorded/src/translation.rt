@@ -4,7 +4,7 @@ ghost use Prim.Native.Nat.{_<_};
 use crate::list;
 use crate::list::Line;
 use crate::told;
-use crate::told::Told;
+use crate::told::Answer;
 use answers::Acceptance;
 use mmu::Mmu;
 use mmu::Shortcut;
@@ -20,7 +20,7 @@ pub(crate) fn replay(
     line: Line,
     words: &mut [u64; 2055],
     tables: &mut [u8; 32768],
-) -> Told {
+) -> Answer {
     if line.function == 2 {
         return store(line, list::is_end(list, line.rest), tables);
     }
@@ -35,7 +35,7 @@ pub(crate) fn replay(
     told::judged(line, is_read, is_left, told_of(line.function, answer))
 }
 
-fn store(line: Line, is_read: bool, tables: &mut [u8]) -> Told {
+fn store(line: Line, is_read: bool, tables: &mut [u8]) -> Answer {
     if line.shape != 0x30 || !is_read {
         return told::only(told::UNREAD);
     }
@@ -78,7 +78,7 @@ fn settled(mmu: Mmu) -> Translated {
     Translated { answer, mmu }
 }
 
-fn told_of(function: u64, answer: Translation) -> Told {
+fn told_of(function: u64, answer: Translation) -> Answer {
     if 3 < function && function < 8 {
         return translation(answer);
     }
@@ -91,7 +91,7 @@ fn told_of(function: u64, answer: Translation) -> Told {
 }
 
 // Document 01's number; the address found, or the one that was asked for; the table entries read.
-fn translation(answer: Translation) -> Told {
+fn translation(answer: Translation) -> Answer {
     match answer {
         Translation::At { address, reads } => told::values(0x77, 0, address, reads),
         Translation::Fault { fault, reads } => {

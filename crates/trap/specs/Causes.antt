@@ -2,14 +2,14 @@
 -- instruction its word, any other nothing.
 use mathlib.Core.List.{[], _∷_}
 use Prim.Native.Nat.{ℕ}
-use Rattle.answers.specs.Told.{Told}
+use Rattle.answers.specs.Answer.{Answer}
 use Rattle.trap.specs.declared.TrapCause.{TrapCause}
 use Rattle.trap.specs.declared.TrapCause.the-variants.{InstructionAddressMisaligned, IllegalInstruction, Breakpoint, LoadAddressMisaligned, StoreAddressMisaligned, EcallFromUMode, EcallFromSMode, EcallFromMMode}
 
-abbrev code : ℕ → Told ℕ
+abbrev code : ℕ → Answer ℕ
 code n = record { number = n; values = [] }
 
-abbrev pub cause : TrapCause → Told ℕ
+abbrev pub cause : TrapCause → Answer ℕ
 cause InstructionAddressMisaligned = code 0
 cause (IllegalInstruction word) = record { number = 2; values = word ∷ [] }
 cause Breakpoint = code 3

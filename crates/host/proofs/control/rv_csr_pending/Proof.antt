@@ -2,7 +2,7 @@
 -- Assumes nothing.
 use mathlib.Core.Path.{_≡_, sym, ap, _∙_}
 use Prim.Native.Nat.{ℕ}
-use Rattle.answers.specs.Told.{Told, accepted}
+use Rattle.answers.specs.Answer.{Answer, accepted}
 use Rattle.answers.proofs.Gives.{found-value, found-nothing}
 use Rattle.csr.specs.Modes.{modeOf}
 use Rattle.csr.specs.Interrupts.{pending}
@@ -20,7 +20,7 @@ element-copy-out-if1-2 c = search needs
 returns : tie.Need-returns
 returns c =
     let a = c .before .before .before .args
-    in let t : _≡_ {A = Told ℕ} accepted (pendingIn (a .csr .now) (modeOf (a .privilege))) = rw (c .if1 .taken)
+    in let t : _≡_ {A = Answer ℕ} accepted (pendingIn (a .csr .now) (modeOf (a .privilege))) = rw (c .if1 .taken)
     in found-nothing (a .out .now) t
 
 from-bits-requires : tie.Need-from-bits-requires

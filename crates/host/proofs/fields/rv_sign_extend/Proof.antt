@@ -2,7 +2,7 @@
 use mathlib.Core.Path.{_≡_, sym, ap, _∙_, subst⁻¹}
 use lib.IntN.{ℤ}
 use Rattle.answers.specs.Refusals.{numberOf}
-use Rattle.answers.specs.Told.{done, refused}
+use Rattle.answers.specs.Answer.{done, refused}
 use Rattle.answers.specs.Gave.{Gave}
 use Rattle.answers.proofs.Gives.{gave-value, gave-refused}
 use Rattle.answers.proofs.Shifts.{read-back}

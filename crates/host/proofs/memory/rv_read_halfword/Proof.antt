@@ -1,7 +1,7 @@
 -- `host::memory::rv_read_halfword` meets its contract. Assumes nothing.
 use mathlib.Core.Path.{subst}
 use Prim.Native.Nat.{ℕ}
-use Rattle.answers.specs.Told.{Told}
+use Rattle.answers.specs.Answer.{Answer}
 use Rattle.answers.specs.Gave.{Gave}
 use borrow.Author.Needs.{needs}
 use Rattle.host.proofs.memory.rv_read_halfword.Statement.{statement}
@@ -14,7 +14,7 @@ give-requires : tie.Need-give-requires
 give-requires c κs = search needs
 
 returns : tie.Need-returns
-returns c = subst (λ (t : Told ℕ). Gave t (c .before .before .before .before .args .out .now) (c .give .result) (c .give .last .1 .0)) (c .before .before .read-halfword .ensures) (c .give .ensures)
+returns c = subst (λ (t : Answer ℕ). Gave t (c .before .before .before .before .args .out .now) (c .give .result) (c .give .last .1 .0)) (c .before .before .read-halfword .ensures) (c .give .ensures)
 
 pub rv-read-halfword-spec : {M : Type 1} → statement M
 rv-read-halfword-spec = tie.close (tie.spec read-halfword-requires give-requires returns)
