@@ -12,20 +12,19 @@ use csr_list::MIE_WORD;
 use csr_list::MIP_WORD;
 use csr_list::MISA_WORD;
 use csr_list::MSTATUS_WORD;
-use csr_list::WORDS;
 
 #[no_mangle]
-pub extern "C" fn rv_csr_new(csr: &mut [u64; WORDS])
+pub extern "C" fn rv_csr_new(csr: &mut [u64; csr_list::WORDS])
     ensures { λ r. ⌜ now (csr .exit) ≡ resetWords ⌝ }
 {
-    *csr = [0u64; WORDS];
+    *csr = [0u64; csr_list::WORDS];
     csr[MSTATUS_WORD] = Csr::MSTATUS_RESET;
     csr[MISA_WORD] = Csr::MISA_RESET;
 }
 
 #[no_mangle]
 pub extern "C" fn rv_csr_read(
-    csr: &[u64; WORDS],
+    csr: &[u64; csr_list::WORDS],
     address: u32,
     privilege: u64,
     out: &mut u64,
@@ -47,7 +46,7 @@ pub extern "C" fn rv_csr_read(
 
 #[no_mangle]
 pub extern "C" fn rv_csr_write(
-    csr: &mut [u64; WORDS],
+    csr: &mut [u64; csr_list::WORDS],
     address: u32,
     value: u64,
     privilege: u64,
@@ -75,7 +74,11 @@ pub extern "C" fn rv_csr_write(
 }
 
 #[no_mangle]
-pub extern "C" fn rv_csr_pending(csr: &[u64; WORDS], privilege: u64, out: &mut u64) -> bool
+pub extern "C" fn rv_csr_pending(
+    csr: &[u64; csr_list::WORDS],
+    privilege: u64,
+    out: &mut u64,
+) -> bool
     ensures { λ r. ⌜ Found (pendingIn (now (csr .entry)) (modeOf privilege)) (now (out .entry)) r (now (out .exit)) ⌝ }
 {
     // Most calls end here, before the mode is made.

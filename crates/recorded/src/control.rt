@@ -10,14 +10,14 @@ use csr::PrivMode;
 use csr::Written;
 
 // 0: new; 1: words are set; 2: a read; 3: a write; 4: an interrupt choice; 5: a mode.
-pub(crate) fn replay(list: &[u8], line: Line, words: &mut [u64; 136]) -> Answer {
+pub(crate) fn replay(list: &[u8], line: Line, words: &mut [u64; csr_list::WORDS]) -> Answer {
     let before = *words;
     let file = Csr { words: before };
     let written = write(line.function, line.a, line.b, line.c, file);
     let accepted = written.answer;
     let told = answer(line.function, line.a, line.b, file, accepted);
     if line.function == 0 {
-        *words = [0u64; 136];
+        *words = [0u64; csr_list::WORDS];
     }
     let is_read = list::change(list, line.rest, words);
     told::judged(line, is_read, is(written.csr, words), told)
@@ -74,9 +74,9 @@ fn number_of(mode: PrivMode) -> u64 {
 }
 
 // Whether the file is these words.
-fn is(file: Csr, words: &[u64; 136]) -> bool {
+fn is(file: Csr, words: &[u64; csr_list::WORDS]) -> bool {
     let mut apart = 0;
-    for i in 0..136 {
+    for i in 0..csr_list::WORDS {
         apart = apart | (file.words[i] ^ words[i]);
     }
     apart == 0

@@ -38,10 +38,10 @@ fn replay_first(text: &[u8], length: usize) {
 // it: so the next call goes on from what the last one left, or from what it should have left.
 fn replay(list: &[u8]) {
     let mut gpr = [0u64; 65];
-    let mut csr = [0u64; 136];
+    let mut csr = [0u64; csr_list::WORDS];
     let mut bytes = [0u64; 4096];
     let mut memory = [0u8; 4096];
-    let mut mmu = [0u64; 2055];
+    let mut mmu = [0u64; translation::WORDS];
     let mut tables = [0u8; 32768];
     let mut account = Account {
         answers: 0,
@@ -85,10 +85,10 @@ fn call(
     list: &[u8],
     line: Line,
     gpr: &mut [u64; 65],
-    csr: &mut [u64; 136],
+    csr: &mut [u64; csr_list::WORDS],
     bytes: &mut [u64; 4096],
     memory: &mut [u8; 4096],
-    mmu: &mut [u64; 2055],
+    mmu: &mut [u64; translation::WORDS],
     tables: &mut [u8; 32768],
 ) -> Answer {
     let letter = line.letter;

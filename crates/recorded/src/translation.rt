@@ -1,12 +1,14 @@
-// mmu.rs. The words are the epoch; page, result page and satp of the load shortcut, and of the store shortcut; then 512 slots of four: tag,
-// result page, leaf entry, epoch. The tables stand in a memory; a call is made with its first bytes, as many as its first input says.
-ghost use Prim.Native.Nat.{_<_};
+// mmu.rs. The words are the epoch; page, result page and satp of the load shortcut, and of the store shortcut; then the slots, each tag, result
+// page, leaf entry and epoch. The tables stand in a memory; a call is made with its first bytes, as many as its first input says.
+ghost use Prim.Native.Nat.{_+_, _*_, _≤_};
+ghost use Rattle.mmu.specs.Cache.{slotCount};
 use crate::list;
 use crate::list::Line;
 use crate::told;
 use crate::told::Answer;
 use answers::Acceptance;
 use mmu::Mmu;
+use mmu::SLOTS;
 use mmu::Shortcut;
 use mmu::TlbEntry;
 use mmu::Translated;
@@ -14,11 +16,21 @@ use mmu::Translation;
 use walk::PhysPage;
 use walk::VirtPage;
 
+const LOAD_AT: usize = 1;
+
+const STORE_AT: usize = 4;
+
+const SLOTS_AT: usize = 7;
+
+const SLOT_WORDS: usize = 4;
+
+pub(crate) const WORDS: usize = SLOTS_AT + SLOTS * SLOT_WORDS;
+
 // 0: new, over a memory of zeros; 1: words are set; 2: a table entry is stored; 3: a flush; 4 to 7: translations.
 pub(crate) fn replay(
     list: &[u8],
     line: Line,
-    words: &mut [u64; 2055],
+    words: &mut [u64; WORDS],
     tables: &mut [u8; 32768],
 ) -> Answer {
     if line.function == 2 {
@@ -27,7 +39,7 @@ pub(crate) fn replay(
     let translated = call(line, tables, held(words));
     let answer = translated.answer;
     if line.function == 0 {
-        *words = [0u64; 2055];
+        *words = [0u64; WORDS];
         *tables = [0u8; 32768];
     }
     let is_read = list::change(list, line.rest, words);
@@ -102,10 +114,10 @@ fn translation(answer: Translation) -> Answer {
 }
 
 // The state that these words are.
-fn held(words: &[u64; 2055]) -> Mmu {
+fn held(words: &[u64; WORDS]) -> Mmu {
     let epoch = (words[0] % 0x1_0000_0000) as u32;
-    let load = shortcut(words, 1);
-    let store = shortcut(words, 4);
+    let load = shortcut(words, LOAD_AT);
+    let store = shortcut(words, STORE_AT);
     let tlb = slots(words);
     Mmu {
         tlb,
@@ -115,17 +127,17 @@ fn held(words: &[u64; 2055]) -> Mmu {
     }
 }
 
-fn slots(words: &[u64; 2055]) -> [TlbEntry; 512] {
+fn slots(words: &[u64; WORDS]) -> [TlbEntry; SLOTS] {
     let empty = TlbEntry::empty();
-    let mut tlb = [empty; 512];
-    for i in 0..512 {
-        tlb[i] = slot(words, 7 + 4 * i);
+    let mut tlb = [empty; SLOTS];
+    for i in 0..SLOTS {
+        tlb[i] = slot(words, SLOTS_AT + SLOT_WORDS * i);
     }
     tlb
 }
 
-fn slot(words: &[u64; 2055], at: usize) -> TlbEntry
-    requires { ⌜ at < 2052 ⌝ }
+fn slot(words: &[u64; WORDS], at: usize) -> TlbEntry
+    requires { ⌜ at + 4 ≤ 7 + slotCount * 4 ⌝ }
 {
     let tag = VirtPage(words[at]);
     let frame = PhysPage(words[at + 1]);
@@ -137,8 +149,8 @@ fn slot(words: &[u64; 2055], at: usize) -> TlbEntry
     }
 }
 
-fn shortcut(words: &[u64; 2055], at: usize) -> Shortcut
-    requires { ⌜ at < 2053 ⌝ }
+fn shortcut(words: &[u64; WORDS], at: usize) -> Shortcut
+    requires { ⌜ at + 3 ≤ 7 + slotCount * 4 ⌝ }
 {
     let page = VirtPage(words[at]);
     let frame = PhysPage(words[at + 1]);
@@ -150,19 +162,19 @@ fn shortcut(words: &[u64; 2055], at: usize) -> Shortcut
 }
 
 // Whether the state is these words.
-fn is(mmu: Mmu, words: &[u64; 2055]) -> bool {
-    let load = shortcut_apart(mmu.load, words, 1);
-    let store = shortcut_apart(mmu.store, words, 4);
+fn is(mmu: Mmu, words: &[u64; WORDS]) -> bool {
+    let load = shortcut_apart(mmu.load, words, LOAD_AT);
+    let store = shortcut_apart(mmu.store, words, STORE_AT);
     let mut apart = (mmu.epoch as u64 ^ words[0]) | load | store;
-    for i in 0..512 {
-        apart = apart | slot_apart(mmu.tlb[i], words, 7 + 4 * i);
+    for i in 0..SLOTS {
+        apart = apart | slot_apart(mmu.tlb[i], words, SLOTS_AT + SLOT_WORDS * i);
     }
     apart == 0
 }
 
 // 0 where a slot is these words.
-fn slot_apart(slot: TlbEntry, words: &[u64; 2055], at: usize) -> u64
-    requires { ⌜ at < 2052 ⌝ }
+fn slot_apart(slot: TlbEntry, words: &[u64; WORDS], at: usize) -> u64
+    requires { ⌜ at + 4 ≤ 7 + slotCount * 4 ⌝ }
 {
     let tag = slot.tag.0 ^ words[at];
     let frame = slot.frame.0 ^ words[at + 1];
@@ -171,8 +183,8 @@ fn slot_apart(slot: TlbEntry, words: &[u64; 2055], at: usize) -> u64
     tag | frame | leaf | epoch
 }
 
-fn shortcut_apart(shortcut: Shortcut, words: &[u64; 2055], at: usize) -> u64
-    requires { ⌜ at < 2053 ⌝ }
+fn shortcut_apart(shortcut: Shortcut, words: &[u64; WORDS], at: usize) -> u64
+    requires { ⌜ at + 3 ≤ 7 + slotCount * 4 ⌝ }
 {
     let page = shortcut.page.0 ^ words[at];
     let frame = shortcut.frame.0 ^ words[at + 1];

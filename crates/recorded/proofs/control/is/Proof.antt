@@ -1,14 +1,15 @@
--- `recorded::control::is` is safe and ends: the loop counts to 136. Assumes nothing.
+-- `recorded::control::is` is safe and ends: the loop counts the words. Assumes nothing.
 use Prim.Native.Nat.{_≤_, _-_}
 use borrow.Author.Needs.{needs}
+use Rattle.csr_list.specs.Words.{csrWords}
 use Rattle.recorded.proofs.control.is.Statement.{statement}
 use Rattle.recorded.proofs.control.is.Tie as tie
 
 abbrev Inv-loop : tie.InvT-loop
-Inv-loop words file apart₀ i₀ apart i = i ≤ 136
+Inv-loop words file apart₀ i₀ apart i = i ≤ csrWords
 
 abbrev μ-loop : tie.MeasureT-loop
-μ-loop words file apart₀ i₀ apart i = 136 - i
+μ-loop words file apart₀ i₀ apart i = csrWords - i
 
 loop-holds : tie.Need-loop-holds Inv-loop μ-loop
 loop-holds c = search needs

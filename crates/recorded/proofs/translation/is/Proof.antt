@@ -1,14 +1,15 @@
--- `recorded::translation::is` is safe and ends: the loop counts to 512. Assumes nothing.
+-- `recorded::translation::is` is safe and ends: the loop counts the slots. Assumes nothing.
 use Prim.Native.Nat.{_≤_, _-_}
 use borrow.Author.Needs.{needs}
+use Rattle.mmu.specs.Cache.{slotCount}
 use Rattle.recorded.proofs.translation.is.Statement.{statement}
 use Rattle.recorded.proofs.translation.is.Tie as tie
 
 abbrev Inv-loop : tie.InvT-loop
-Inv-loop words mmu load store apart₀ i₀ apart i = i ≤ 512
+Inv-loop words mmu load store apart₀ i₀ apart i = i ≤ slotCount
 
 abbrev μ-loop : tie.MeasureT-loop
-μ-loop words mmu load store apart₀ i₀ apart i = 512 - i
+μ-loop words mmu load store apart₀ i₀ apart i = slotCount - i
 
 shortcut-apart-requires : tie.Need-shortcut-apart-requires Inv-loop μ-loop
 shortcut-apart-requires c κs = search needs

@@ -1,14 +1,15 @@
--- `recorded::translation::slots` is safe and ends: the loop counts to 512. Assumes nothing.
+-- `recorded::translation::slots` is safe and ends: the loop counts the slots. Assumes nothing.
 use Prim.Native.Nat.{_≤_, _-_}
 use borrow.Author.Needs.{needs}
+use Rattle.mmu.specs.Cache.{slotCount}
 use Rattle.recorded.proofs.translation.slots.Statement.{statement}
 use Rattle.recorded.proofs.translation.slots.Tie as tie
 
 abbrev Inv-loop : tie.InvT-loop
-Inv-loop words tlb₀ i₀ tlb i = i ≤ 512
+Inv-loop words tlb₀ i₀ tlb i = i ≤ slotCount
 
 abbrev μ-loop : tie.MeasureT-loop
-μ-loop words tlb₀ i₀ tlb i = 512 - i
+μ-loop words tlb₀ i₀ tlb i = slotCount - i
 
 empty-requires : tie.Need-empty-requires Inv-loop μ-loop
 empty-requires c κs = search needs
