@@ -1,7 +1,9 @@
 // The comparison reads and sets the whole state, in the order of the fields. Each field is named
 // here, so that one that the original gains does not go unseen.
+use crate::layout::CSR_WORDS;
+
 impl Csr {
-    pub fn oracle_words(&self) -> [u64; 136] {
+    pub fn oracle_words(&self) -> [u64; CSR_WORDS] {
         let Self {
             mstatus,
             misa,
@@ -62,7 +64,7 @@ impl Csr {
             *satp,
         ];
 
-        let mut words = [0; 136];
+        let mut words = [0; CSR_WORDS];
         words[..14].copy_from_slice(&machine);
         words[14..22].copy_from_slice(&supervisor);
         words[22] = *hart_id;
@@ -73,7 +75,7 @@ impl Csr {
         words
     }
 
-    pub fn oracle_from(words: &[u64; 136]) -> Self {
+    pub fn oracle_from(words: &[u64; CSR_WORDS]) -> Self {
         let mut csr = Self {
             mstatus: words[0],
             misa: words[1],

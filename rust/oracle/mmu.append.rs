@@ -1,8 +1,13 @@
 // The state is private. The comparison reads and sets it whole: epoch, load shortcut, store
 // shortcut, then the slots. The pointer tables are left out. Each field is named here, so that one
 // that the original gains does not go unseen.
+use crate::layout::{EPOCH_AT, LOAD_AT, MMU_WORDS, SLOT_WORDS, SLOTS, SLOTS_AT, STORE_AT};
+
+// No slot is left over where the two are gone through together.
+const _: () = assert!(TLB_SIZE == SLOTS);
+
 impl TlbEntry {
-    fn oracle_words(&self) -> [u64; 4] {
+    fn oracle_words(&self) -> [u64; SLOT_WORDS] {
         let Self {
             virt_page_num,
             phys_page_num,
@@ -14,7 +19,7 @@ impl TlbEntry {
 }
 
 impl Mmu {
-    fn oracle_front(&self) -> [u64; 7] {
+    fn oracle_front(&self) -> [u64; SLOTS_AT] {
         let Self {
             tlb: _,
             load_fast: _,
@@ -38,43 +43,48 @@ impl Mmu {
         ]
     }
 
-    pub fn oracle_words(&self) -> [u64; 2055] {
-        let mut words = [0; 2055];
-        words[..7].copy_from_slice(&self.oracle_front());
-        for (slot, four) in self.tlb.iter().zip(words[7..].chunks_exact_mut(4)) {
-            four.copy_from_slice(&slot.oracle_words());
+    pub fn oracle_words(&self) -> [u64; MMU_WORDS] {
+        let mut words = [0; MMU_WORDS];
+        words[..SLOTS_AT].copy_from_slice(&self.oracle_front());
+        let slots = words[SLOTS_AT..].chunks_exact_mut(SLOT_WORDS);
+        for (slot, its) in self.tlb.iter().zip(slots) {
+            its.copy_from_slice(&slot.oracle_words());
         }
         words
     }
 
     /// Whether these are its words. It is asked after every call, so they are not copied first, and
     /// the slots are looked at without a branch for each.
-    pub fn oracle_is(&self, words: &[u64; 2055]) -> bool {
+    pub fn oracle_is(&self, words: &[u64; MMU_WORDS]) -> bool {
         let mut differ = 0;
-        for (slot, four) in self.tlb.iter().zip(words[7..].chunks_exact(4)) {
-            let [tag, page, leaf, epoch] = slot.oracle_words();
-            differ |= (tag ^ four[0]) | (page ^ four[1]) | (leaf ^ four[2]) | (epoch ^ four[3]);
+        let slots = words[SLOTS_AT..].chunks_exact(SLOT_WORDS);
+        for (slot, its) in self.tlb.iter().zip(slots) {
+            for (word, its) in slot.oracle_words().iter().zip(its) {
+                differ |= word ^ its;
+            }
         }
-        differ == 0 && self.oracle_front() == words[..7]
+        differ == 0 && self.oracle_front() == words[..SLOTS_AT]
     }
 
     /// The pointer tables are empty.
-    pub fn oracle_from(words: &[u64; 2055]) -> Self {
+    pub fn oracle_from(words: &[u64; MMU_WORDS]) -> Self {
         let epoch = |word: u64| u32::try_from(word).expect("an epoch of 32 bits");
         let mut mmu = Self::new();
-        mmu.epoch = epoch(words[0]);
-        mmu.load_vpage = words[1];
-        mmu.load_ppage = words[2];
-        mmu.load_satp = words[3];
-        mmu.store_vpage = words[4];
-        mmu.store_ppage = words[5];
-        mmu.store_satp = words[6];
-        for (slot, four) in mmu.tlb.iter_mut().zip(words[7..].chunks_exact(4)) {
+        mmu.epoch = epoch(words[EPOCH_AT]);
+        mmu.load_vpage = words[LOAD_AT];
+        mmu.load_ppage = words[LOAD_AT + 1];
+        mmu.load_satp = words[LOAD_AT + 2];
+        mmu.store_vpage = words[STORE_AT];
+        mmu.store_ppage = words[STORE_AT + 1];
+        mmu.store_satp = words[STORE_AT + 2];
+
+        let slots = words[SLOTS_AT..].chunks_exact(SLOT_WORDS);
+        for (slot, its) in mmu.tlb.iter_mut().zip(slots) {
             *slot = TlbEntry {
-                virt_page_num: four[0],
-                phys_page_num: four[1],
-                flags: four[2],
-                epoch: epoch(four[3]),
+                virt_page_num: its[0],
+                phys_page_num: its[1],
+                flags: its[2],
+                epoch: epoch(its[3]),
             };
         }
         mmu

@@ -2,7 +2,8 @@
 //! appends to the copies the *.append.rs of this folder.
 //!
 //! mmu.rs and system_bus.rs name `crate::perf` and `crate::syscall_trace`, which have much else in
-//! them: small stand-ins are in this folder. So is `counted`, a bus that counts.
+//! them: small stand-ins are in this folder. So is `counted`, a bus that counts. What is appended gives
+//! the words of a state as the wrapper has them, by its `layout`.
 
 pub mod counted;
 #[path = "../../target/oracle/csr.rs"]
@@ -13,6 +14,8 @@ pub mod decode;
 pub mod extensions;
 #[path = "../../target/oracle/gpr.rs"]
 pub mod gpr;
+#[path = "../src/layout.rs"]
+pub mod layout;
 #[path = "../../target/oracle/mmu.rs"]
 pub mod mmu;
 mod perf;

@@ -2,6 +2,7 @@
 //! bit by bit, interrupt choices, then a history of calls.
 
 use oracle::csr::{self as original, Csr, PrivMode};
+use oracle::layout::CSR_WORDS;
 
 use crate::common::Random;
 use crate::list::{Change, List, changed, not_zero};
@@ -42,7 +43,9 @@ pub fn record(list: &mut List, random: &mut Random) {
     list.module(
         "csr",
         'c',
-        "the CSR file, as 136 words in the order of its fields; modes are 0 U, 1 S, 2 and 3 M",
+        &format!(
+            "the CSR file, as {CSR_WORDS} words in the order of its fields; modes are 0 U, 1 S, 2 and 3 M"
+        ),
     );
     list.function(NEW, "new = number ; words");
     list.function(SET, "set = ; words");

@@ -1,6 +1,7 @@
 //! gpr.rs: each call on each register, then a history of calls.
 
 use oracle::gpr::Gpr;
+use oracle::layout::GPR_WORDS;
 
 use crate::common::Random;
 use crate::list::{List, changed, not_zero};
@@ -32,7 +33,7 @@ pub fn record(list: &mut List, random: &mut Random) {
     list.module(
         "gpr",
         'g',
-        "the registers, as 65 words: x0 to x31, pc, f0 to f31",
+        &format!("the registers, as {GPR_WORDS} words: x0 to x31, pc, f0 to f31"),
     );
     list.function(NEW, "new pc = number ; words");
     list.function(SET, "set = ; words");
@@ -103,7 +104,7 @@ impl<'a> Registers<'a> {
 
     /// Every word but x0, which no call makes other than 0.
     fn set(&mut self, random: &mut Random) {
-        let mut words = [0; 65];
+        let mut words = [0; GPR_WORDS];
         words[1..].fill_with(|| random.word());
         self.gpr = Gpr::oracle_from(words);
         self.list.set(SET, &[], &not_zero(&words));

@@ -2,6 +2,7 @@
 //! to table entries between calls, epochs at their end, then random guests.
 
 use oracle::counted::Counted;
+use oracle::layout::{EPOCH_AT, LOAD_AT, MMU_WORDS, SLOT_WORDS, SLOTS, SLOTS_AT, STORE_AT};
 use oracle::mmu::{Mmu, MmuFault};
 
 use crate::common::Random;
@@ -31,8 +32,10 @@ pub fn record(list: &mut List, random: &mut Random) {
     list.module(
         "mmu",
         'm',
-        "the translation state, as 2055 words: epoch; page, result page and satp of the load \
-         shortcut, and of the store shortcut; 512 slots of tag, result page, leaf entry, epoch",
+        &format!(
+            "the translation state, as {MMU_WORDS} words: epoch; page, result page and satp of the load \
+             shortcut, and of the store shortcut; {SLOTS} slots of tag, result page, leaf entry, epoch"
+        ),
     );
     list.function(
         NEW,
@@ -179,8 +182,8 @@ fn walks(cache: &mut Cache) {
     }
 }
 
-/// The same page again and its neighbours, each kind after each other; addresses that share a slot,
-/// 512 pages apart, and a table entry, 2^39 apart.
+/// The same page again and its neighbours, each kind after each other; addresses that share a slot, as
+/// many pages apart as there are slots, and a table entry, 2^39 apart.
 fn slots(cache: &mut Cache) {
     cache.flush();
     for first in [LOAD, STORE, FETCH] {
@@ -192,7 +195,7 @@ fn slots(cache: &mut Cache) {
         }
         cache.flush();
     }
-    for apart in [1 << 21, 1 << 39, 1 << 63] {
+    for apart in [(SLOTS as u64) << 12, 1 << 39, 1 << 63] {
         for kind in [LOAD, STORE, FETCH, LOAD, STORE] {
             cache.ask(kind, 0x1008, SATP);
             cache.ask(kind, 0x1008 + apart, SATP);
@@ -257,11 +260,11 @@ fn satps(cache: &mut Cache) {
 /// The last epochs before they come round, after which a slot of an old epoch counts again; and 0,
 /// which no flush gives.
 fn epochs(cache: &mut Cache) {
-    cache.set(&[(0, 1)]);
+    cache.set(&[(EPOCH_AT, 1)]);
     cache.ask(LOAD, 0x1000, SATP);
     cache.ask(STORE, 0x1000, SATP);
     for epoch in [0xFFFF_FFFD, 0xFFFF_FFFF, 0, 0x7FFF_FFFF] {
-        cache.set(&[(0, epoch)]);
+        cache.set(&[(EPOCH_AT, epoch)]);
         for _ in 0..3 {
             cache.flush();
             cache.ask(LOAD, 0x1008, SATP);
@@ -274,7 +277,7 @@ fn epochs(cache: &mut Cache) {
 /// Slots and shortcuts that no walk filled: result pages of more than 52 bits lose the others, and a
 /// page that no address has is no one's.
 fn held(cache: &mut Cache) {
-    let slot = |page: usize| 7 + 4 * page;
+    let slot = SLOTS_AT + SLOT_WORDS * 3;
     for (frame, leaf) in [
         (5, 0xCF),
         (u64::MAX, 0x7),
@@ -283,17 +286,17 @@ fn held(cache: &mut Cache) {
         (0x321, 0x84),
     ] {
         cache.set(&[
-            (0, 9),
-            (slot(3), 3),
-            (slot(3) + 1, frame),
-            (slot(3) + 2, leaf),
-            (slot(3) + 3, 9),
-            (1, 4),
-            (2, frame),
-            (3, SATP),
-            (4, 4),
-            (5, frame ^ 1),
-            (6, SATP),
+            (EPOCH_AT, 9),
+            (slot, 3),
+            (slot + 1, frame),
+            (slot + 2, leaf),
+            (slot + 3, 9),
+            (LOAD_AT, 4),
+            (LOAD_AT + 1, frame),
+            (LOAD_AT + 2, SATP),
+            (STORE_AT, 4),
+            (STORE_AT + 1, frame ^ 1),
+            (STORE_AT + 2, SATP),
         ]);
         for kind in KINDS {
             cache.ask(kind, 0x4321, SATP);
@@ -301,7 +304,7 @@ fn held(cache: &mut Cache) {
             cache.ask(kind, u64::MAX, SATP);
         }
     }
-    cache.set(&[(1, u64::MAX), (4, u64::MAX)]);
+    cache.set(&[(LOAD_AT, u64::MAX), (STORE_AT, u64::MAX)]);
     cache.flush();
 }
 
@@ -327,7 +330,7 @@ fn guest(cache: &mut Cache, random: &mut Random) {
     let first = random.below(1 << 27);
     let page = |random: &mut Random| match random.below(6) {
         0 => first + 1,
-        1 => first ^ (1 << 9),
+        1 => first ^ SLOTS as u64,
         2 => first ^ (1 << 18),
         3 => first | (1 << 27),
         _ => first,

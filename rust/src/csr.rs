@@ -64,6 +64,7 @@ mod fields;
 
 use crate::answers::{Refusal, done};
 use crate::door;
+use crate::layout::CSR_WORDS;
 
 // Addresses: M-mode.
 /// The status of the hart.
@@ -227,7 +228,7 @@ impl PrivMode {
 /// The CSR file of one hart.
 #[derive(Clone, Debug, PartialEq, Eq)]
 pub struct Csr {
-    words: [u64; 136],
+    words: [u64; Self::WORDS],
 }
 
 impl Default for Csr {
@@ -237,17 +238,20 @@ impl Default for Csr {
 }
 
 impl Csr {
+    /// How many words the state has.
+    pub const WORDS: usize = CSR_WORDS;
+
     /// The CSR file at the start: misa 0x800000000014112D, mstatus 0xA00000000, all else 0.
     #[inline]
     pub fn new() -> Self {
-        let mut words = [0; 136];
+        let mut words = [0; Self::WORDS];
         door::rv_csr_new(&mut words);
         Self { words }
     }
 
     /// The CSR file that these words hold, in the order of [`Csr::words`]. Any words will do.
     #[inline]
-    pub fn from_words(words: [u64; 136]) -> Self {
+    pub fn from_words(words: [u64; Self::WORDS]) -> Self {
         Self { words }
     }
 
@@ -256,7 +260,7 @@ impl Csr {
     /// scause, stval, satp, hart_id, pmpcfg (16), pmpaddr (64), cycle, instret, time, fcsr and
     /// mhpmevent (29).
     #[inline]
-    pub fn words(&self) -> &[u64; 136] {
+    pub fn words(&self) -> &[u64; Self::WORDS] {
         &self.words
     }
 
@@ -273,7 +277,7 @@ impl Csr {
     /// assert_eq!(csr.read_register(0x3EF, PrivMode::M), Ok(7));
     /// ```
     #[inline]
-    pub fn words_mut(&mut self) -> &mut [u64; 136] {
+    pub fn words_mut(&mut self) -> &mut [u64; Self::WORDS] {
         &mut self.words
     }
 

@@ -4,6 +4,8 @@
 //! passes a Rust reference. A lent slice passes as pointer and length: those functions are declared
 //! at the end.
 
+use crate::layout::{CSR_WORDS, GPR_WORDS, MMU_WORDS};
+
 // Sound, and every function safe to call, because the library's functions are proved for any input:
 // they return, they touch nothing but what is lent here, and they write only what is lent as
 // `&mut`. What no proof covers is that these lines say the same as the library's own: `../signatures`
@@ -72,31 +74,42 @@ unsafe extern "C" {
     pub safe fn rv_amomaxu_d(memory_value: u64, src: u64, out: &mut [u64; 2]);
 
     // Registers: x0 to x31, pc, f0 to f31.
-    pub safe fn rv_gpr_new(regs: &mut [u64; 65], pc: u64);
-    pub safe fn rv_gpr_read(regs: &[u64; 65], reg: usize, out: &mut u64) -> u32;
-    pub safe fn rv_gpr_write(regs: &mut [u64; 65], reg: usize, value: u64) -> u32;
-    pub safe fn rv_gpr_read_masked(regs: &[u64; 65], reg: u8) -> u64;
-    pub safe fn rv_gpr_write_masked(regs: &mut [u64; 65], reg: u8, value: u64);
-    pub safe fn rv_gpr_read_f(regs: &[u64; 65], reg: usize, out: &mut u64) -> u32;
-    pub safe fn rv_gpr_write_f(regs: &mut [u64; 65], reg: usize, value: u64) -> u32;
-    pub safe fn rv_gpr_read_f32(regs: &[u64; 65], reg: usize, out: &mut u32) -> u32;
-    pub safe fn rv_gpr_write_f32(regs: &mut [u64; 65], reg: usize, value: u32) -> u32;
+    pub safe fn rv_gpr_new(regs: &mut [u64; GPR_WORDS], pc: u64);
+    pub safe fn rv_gpr_read(regs: &[u64; GPR_WORDS], reg: usize, out: &mut u64) -> u32;
+    pub safe fn rv_gpr_write(regs: &mut [u64; GPR_WORDS], reg: usize, value: u64) -> u32;
+    pub safe fn rv_gpr_read_masked(regs: &[u64; GPR_WORDS], reg: u8) -> u64;
+    pub safe fn rv_gpr_write_masked(regs: &mut [u64; GPR_WORDS], reg: u8, value: u64);
+    pub safe fn rv_gpr_read_f(regs: &[u64; GPR_WORDS], reg: usize, out: &mut u64) -> u32;
+    pub safe fn rv_gpr_write_f(regs: &mut [u64; GPR_WORDS], reg: usize, value: u64) -> u32;
+    pub safe fn rv_gpr_read_f32(regs: &[u64; GPR_WORDS], reg: usize, out: &mut u32) -> u32;
+    pub safe fn rv_gpr_write_f32(regs: &mut [u64; GPR_WORDS], reg: usize, value: u32) -> u32;
 
     // CSR file: the original's fields in their order. Of a privilege the low two bits count.
-    pub safe fn rv_csr_new(csr: &mut [u64; 136]);
-    pub safe fn rv_csr_read(csr: &[u64; 136], address: u32, privilege: u64, out: &mut u64) -> u32;
-    pub safe fn rv_csr_write(csr: &mut [u64; 136], address: u32, value: u64, privilege: u64)
-    -> u32;
-    pub safe fn rv_csr_pending(csr: &[u64; 136], privilege: u64, out: &mut u64) -> bool;
+    pub safe fn rv_csr_new(csr: &mut [u64; CSR_WORDS]);
+    pub safe fn rv_csr_read(
+        csr: &[u64; CSR_WORDS],
+        address: u32,
+        privilege: u64,
+        out: &mut u64,
+    ) -> u32;
+    pub safe fn rv_csr_write(
+        csr: &mut [u64; CSR_WORDS],
+        address: u32,
+        value: u64,
+        privilege: u64,
+    ) -> u32;
+    pub safe fn rv_csr_pending(csr: &[u64; CSR_WORDS], privilege: u64, out: &mut u64) -> bool;
 
-    // Translation: epoch, load shortcut, store shortcut, and 512 slots of four words.
-    pub safe fn rv_mmu_new(mmu: &mut [u64; 2055]);
-    pub safe fn rv_flush(mmu: &mut [u64; 2055]);
+    // Translation: epoch, load shortcut, store shortcut, slots.
+    pub safe fn rv_mmu_new(mmu: &mut [u64; MMU_WORDS]);
+    pub safe fn rv_flush(mmu: &mut [u64; MMU_WORDS]);
 }
 
 /// The functions that are lent guest memory. As pointer and length a caller could lend what is not
 /// his, so these are not safe; each has a form below that takes the slice.
 mod lent {
+    use crate::layout::MMU_WORDS;
+
     type Memory = *const u8;
     type MemoryMut = *mut u8;
 
@@ -120,7 +133,7 @@ mod lent {
 
         // Translation. `out` is the address and the read count.
         pub fn rv_translate_fetch(
-            mmu: &mut [u64; 2055],
+            mmu: &mut [u64; MMU_WORDS],
             m: Memory,
             length: usize,
             address: u64,
@@ -128,7 +141,7 @@ mod lent {
             out: &mut [u64; 2],
         ) -> u32;
         pub fn rv_translate_load(
-            mmu: &mut [u64; 2055],
+            mmu: &mut [u64; MMU_WORDS],
             m: Memory,
             length: usize,
             address: u64,
@@ -136,7 +149,7 @@ mod lent {
             out: &mut [u64; 2],
         ) -> u32;
         pub fn rv_translate_store(
-            mmu: &mut [u64; 2055],
+            mmu: &mut [u64; MMU_WORDS],
             m: Memory,
             length: usize,
             address: u64,
@@ -189,13 +202,13 @@ takes_slices! {
     fn rv_load_at(memory: &mut [u8], offset: usize, bytes: &[u8])
         = (memory.as_mut_ptr(), memory.len(), offset, bytes.as_ptr(), bytes.len());
     fn rv_translate_fetch(
-        mmu: &mut [u64; 2055], memory: &[u8], address: u64, satp: u64, out: &mut [u64; 2]
+        mmu: &mut [u64; MMU_WORDS], memory: &[u8], address: u64, satp: u64, out: &mut [u64; 2]
     ) = (mmu, memory.as_ptr(), memory.len(), address, satp, out);
     fn rv_translate_load(
-        mmu: &mut [u64; 2055], memory: &[u8], address: u64, satp: u64, out: &mut [u64; 2]
+        mmu: &mut [u64; MMU_WORDS], memory: &[u8], address: u64, satp: u64, out: &mut [u64; 2]
     ) = (mmu, memory.as_ptr(), memory.len(), address, satp, out);
     fn rv_translate_store(
-        mmu: &mut [u64; 2055], memory: &[u8], address: u64, satp: u64, out: &mut [u64; 2]
+        mmu: &mut [u64; MMU_WORDS], memory: &[u8], address: u64, satp: u64, out: &mut [u64; 2]
     ) = (mmu, memory.as_ptr(), memory.len(), address, satp, out);
     fn rv_translate_readable(memory: &[u8], address: u64, satp: u64, out: &mut [u64; 2])
         = (memory.as_ptr(), memory.len(), address, satp, out);

@@ -23,20 +23,24 @@
 
 use crate::answers::{Refusal, done};
 use crate::door;
+use crate::layout::GPR_WORDS;
 
 const PC: usize = 32;
 
 /// The register file of one hart.
 #[derive(Clone, Debug, PartialEq, Eq)]
 pub struct Gpr {
-    words: [u64; 65],
+    words: [u64; Self::WORDS],
 }
 
 impl Gpr {
+    /// How many words the state has.
+    pub const WORDS: usize = GPR_WORDS;
+
     /// The registers at the start: integers 0, floats all ones.
     #[inline]
     pub fn new(pc: u64) -> Self {
-        let mut words = [0; 65];
+        let mut words = [0; Self::WORDS];
         door::rv_gpr_new(&mut words, pc);
         Self { words }
     }
@@ -44,13 +48,13 @@ impl Gpr {
     /// The registers that these words hold: x0 to x31, pc, f0 to f31. Any words will do; x0 reads 0
     /// whatever its word is.
     #[inline]
-    pub fn from_words(words: [u64; 65]) -> Self {
+    pub fn from_words(words: [u64; Self::WORDS]) -> Self {
         Self { words }
     }
 
     /// The whole state: x0 to x31, pc, f0 to f31.
     #[inline]
-    pub fn words(&self) -> &[u64; 65] {
+    pub fn words(&self) -> &[u64; Self::WORDS] {
         &self.words
     }
 
@@ -66,7 +70,7 @@ impl Gpr {
     /// assert_eq!((regs.read(1), regs.read(31), regs.pc()), (Ok(100), Ok(130), 131));
     /// ```
     #[inline]
-    pub fn words_mut(&mut self) -> &mut [u64; 65] {
+    pub fn words_mut(&mut self) -> &mut [u64; Self::WORDS] {
         &mut self.words
     }
 

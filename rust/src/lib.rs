@@ -31,6 +31,7 @@ pub mod decode;
 mod door;
 pub mod extensions;
 pub mod gpr;
+pub mod layout;
 pub mod mmu;
 pub mod system_bus;
 

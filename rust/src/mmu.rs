@@ -1,4 +1,4 @@
-//! Translation of addresses: the Sv39 walk, its cache of 512 slots, and a shortcut each for loads
+//! Translation of addresses: the Sv39 walk, the slots of its cache, and a shortcut each for loads
 //! and stores.
 //!
 //! ```
@@ -62,6 +62,7 @@ use std::fmt;
 
 use crate::answers::{Refusal, refusal};
 use crate::door;
+use crate::layout::MMU_WORDS;
 
 /// A translation that succeeded.
 #[derive(Clone, Copy, Debug, PartialEq, Eq)]
@@ -141,13 +142,14 @@ impl fmt::Display for TranslationError {
 
 impl std::error::Error for TranslationError {}
 
-/// The translation state of one hart: an epoch, two shortcuts and 512 slots.
+/// The translation state of one hart: an epoch, two shortcuts and [`SLOTS`](crate::layout::SLOTS)
+/// slots.
 ///
 /// The state knows nothing of the memory that it was filled from. A host that changes the tables,
 /// satp or the length of the memory calls [`Mmu::flush`].
 #[derive(Clone, Debug, PartialEq, Eq)]
 pub struct Mmu {
-    words: Box<[u64; 2055]>,
+    words: Box<[u64; Self::WORDS]>,
 }
 
 impl Default for Mmu {
@@ -157,32 +159,36 @@ impl Default for Mmu {
 }
 
 impl Mmu {
+    /// How many words the state has.
+    pub const WORDS: usize = MMU_WORDS;
+
     /// The state at the start: epoch 1, nothing kept.
     #[inline]
     pub fn new() -> Self {
-        let mut words = Box::new([0; 2055]);
+        let mut words = Box::new([0; Self::WORDS]);
         door::rv_mmu_new(&mut words);
         Self { words }
     }
 
     /// The state that these words hold, in the order of [`Mmu::words`]. Any words will do.
     #[inline]
-    pub fn from_words(words: [u64; 2055]) -> Self {
+    pub fn from_words(words: [u64; Self::WORDS]) -> Self {
         Self {
             words: Box::new(words),
         }
     }
 
     /// The whole state: the epoch; page, result page and satp of the load shortcut; the same of the
-    /// store shortcut; then 512 slots of tag, result page, leaf entry and epoch.
+    /// store shortcut; then the slots, each of tag, result page, leaf entry and epoch.
+    /// [`layout`](crate::layout) has their places.
     #[inline]
-    pub fn words(&self) -> &[u64; 2055] {
+    pub fn words(&self) -> &[u64; Self::WORDS] {
         &self.words
     }
 
     /// The whole state, to be changed. Any words will do.
     #[inline]
-    pub fn words_mut(&mut self) -> &mut [u64; 2055] {
+    pub fn words_mut(&mut self) -> &mut [u64; Self::WORDS] {
         &mut self.words
     }
 

@@ -17,7 +17,7 @@ use crate::door;
 use call::{Answer, Call, Door, Library};
 use inputs::{Addresses, any_words};
 
-type Words = [u64; 136];
+type Words = [u64; Csr::WORDS];
 
 const FULL_STARTS: usize = 3;
 const STARTS: usize = 2_000;
@@ -240,5 +240,6 @@ fn run<L: Library>(tally: &mut Tally, start: &Words, calls: impl IntoIterator<It
 /// The words that are not as before, each with its place.
 fn changed(before: &Words, after: &Words) -> Vec<(usize, u64)> {
     let differs = |&i: &usize| before[i] != after[i];
-    (0..136).filter(differs).map(|i| (i, after[i])).collect()
+    let places = (0..Csr::WORDS).filter(differs);
+    places.map(|i| (i, after[i])).collect()
 }

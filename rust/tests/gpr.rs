@@ -7,7 +7,7 @@ use oracle::gpr::Gpr as Original;
 use crate::common::{Random, Tally};
 use crate::door;
 
-type Words = [u64; 65];
+type Words = [u64; Gpr::WORDS];
 
 /// What a call gives back: a write gives no value.
 type Answer = Result<Option<u64>, Refusal>;
@@ -242,7 +242,8 @@ fn run(tally: &mut Tally, start: Words, calls: impl Iterator<Item = Call>) {
 /// The words that a call changed, each with its place.
 fn changed(before: &Words, after: &Words) -> Vec<(usize, u64)> {
     let differs = |&i: &usize| before[i] != after[i];
-    (0..65).filter(differs).map(|i| (i, after[i])).collect()
+    let places = (0..Gpr::WORDS).filter(differs);
+    places.map(|i| (i, after[i])).collect()
 }
 
 /// At the door itself: a refused read leaves `out` as it was. That the words stay is seen in `run`.

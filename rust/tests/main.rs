@@ -19,6 +19,9 @@ mod door;
 
 use std::process::ExitCode;
 
+// By this name the door finds it here too.
+use leavnnjar::layout;
+
 fn main() -> ExitCode {
     let seed = common::seed();
     common::summary(&[

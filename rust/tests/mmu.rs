@@ -14,11 +14,12 @@ use oracle::system_bus::SystemBus;
 
 use crate::common::{Random, Tally};
 use crate::door;
+use crate::layout::{EPOCH_AT, SLOTS_AT};
 use crate::system_bus::zeroed;
 use call::{Answer, Ask, Door, Kind, Library};
 use guest::{Event, Guest};
 
-type Words = [u64; 2055];
+type Words = [u64; Mmu::WORDS];
 
 /// Entries of a memory or words of a state, each with its place.
 type Places = Vec<(usize, u64)>;
@@ -45,7 +46,7 @@ pub fn compare(seed: u64) -> Tally {
             let mut start = reset;
             match round % 4 {
                 0 | 1 => (),
-                2 => start[0] = states::edge_epoch(&mut random),
+                2 => start[EPOCH_AT] = states::edge_epoch(&mut random),
                 _ => start = states::fitting(&mut random, &guest),
             }
             match round % 16 {
@@ -107,7 +108,7 @@ fn new(tally: &mut Tally, random: &mut Random) -> Words {
     see(Mmu::new().words(), "Mmu::new");
     see(Mmu::default().words(), "Mmu::default");
 
-    let mut mmu = Mmu::from_words([0; 2055]);
+    let mut mmu = Mmu::from_words([0; Mmu::WORDS]);
     *mmu.words_mut() = expected;
     see(mmu.words(), "Mmu::words_mut");
     expected
@@ -121,7 +122,7 @@ struct Input {
     ask: Ask,
     length: usize,
     entries: Places,
-    epoch_shortcuts_slot: [u64; 11],
+    epoch_shortcuts_slot: states::Seen,
 }
 
 /// What such a call gave back, and the words of the state in which the two then differ.
@@ -135,7 +136,7 @@ struct Outcome {
 /// The words in which two states differ, each with its place: the first few.
 fn apart(ours: &Words, theirs: &Words) -> (Places, Places) {
     let differs = |&i: &usize| ours[i] != theirs[i];
-    let places: Vec<usize> = (0..2055).filter(differs).take(16).collect();
+    let places: Vec<usize> = (0..Mmu::WORDS).filter(differs).take(16).collect();
     let of = |words: &Words| places.iter().map(|&i| (i, words[i])).collect();
     (of(ours), of(theirs))
 }
@@ -216,7 +217,7 @@ impl<L: Library> Pair<L> {
         tally.calls("flush", 1);
         if !self.original.oracle_is(self.library.words()) {
             let (ours, theirs) = apart(self.library.words(), &self.original.oracle_words());
-            tally.differ("flush", &before[..7], ours, "original", theirs);
+            tally.differ("flush", &before[..SLOTS_AT], ours, "original", theirs);
             self.again_alike();
         }
     }

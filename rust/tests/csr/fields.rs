@@ -30,7 +30,7 @@ macro_rules! fields {
 }
 
 /// Every field but the three that are lists: as many as there are words beside theirs.
-const FIELDS: [Field; 136 - 16 - 64 - 29] = fields! {
+const FIELDS: [Field; Csr::WORDS - 16 - 64 - 29] = fields! {
     mstatus set_mstatus
     misa set_misa
     medeleg set_medeleg

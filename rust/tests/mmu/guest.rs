@@ -3,6 +3,7 @@
 
 use super::call::{Ask, Kind};
 use crate::common::Random;
+use crate::layout::SLOTS;
 
 /// Page numbers in satp and in an entry have 44 bits.
 const PAGE_BITS: u64 = (1 << 44) - 1;
@@ -134,7 +135,7 @@ fn pages(random: &mut Random) -> Vec<u64> {
     let mut pages = vec![
         first,
         first + step,
-        first ^ (step << 9),
+        first ^ (step * SLOTS as u64),
         first ^ (step << 18),
         first ^ (step << 27),
         first ^ (1 << random.below(52)),

@@ -5,6 +5,7 @@ use super::call::{Answer, Ask, Door, Kind, Library};
 use super::guest::{self, Event, Guest};
 use super::{SHORT, UNTOUCHED, Words, lengths, states};
 use crate::common::{Random, Tally};
+use crate::layout::{EPOCH_AT, LOAD_AT, SHORTCUT_WORDS, SLOT_WORDS, STORE_AT};
 
 const ROUNDS: usize = 200;
 const LONG: usize = 100;
@@ -34,8 +35,8 @@ fn run(tally: &mut Tally, random: &mut Random, guest: &Guest, start: &Words, res
                 library.flush();
                 tally.calls("any words: flush", 1);
                 let after = library.words();
-                let emptied = after[1] == u64::MAX && after[4] == u64::MAX;
-                if !emptied || !only(&before, after, &[0, 1, 4]) {
+                let emptied = after[LOAD_AT] == u64::MAX && after[STORE_AT] == u64::MAX;
+                if !emptied || !only(&before, after, &[EPOCH_AT, LOAD_AT, STORE_AT]) {
                     let seen = states::seen(&before, 0);
                     let now = states::seen(after, 0);
                     tally.differ("any words: flush", seen, now, "rule", "as a flush does");
@@ -86,15 +87,16 @@ fn may_change(ask: Ask, answer: Answer) -> Vec<usize> {
     if answer.number != 0 || ask.satp >> 60 == 0 {
         return Vec::new();
     }
-    let mut places = match ask.kind {
-        Kind::Load => vec![1, 2, 3],
-        Kind::Store => vec![4, 5, 6],
-        Kind::Fetch => Vec::new(),
-        Kind::Readable => return Vec::new(),
-    };
+    let mut places = Vec::new();
+    match ask.kind {
+        Kind::Load => places.extend(LOAD_AT..LOAD_AT + SHORTCUT_WORDS),
+        Kind::Store => places.extend(STORE_AT..STORE_AT + SHORTCUT_WORDS),
+        Kind::Fetch => (),
+        Kind::Readable => return places,
+    }
     if answer.out[1] != 0 {
         let slot = states::slot(ask.address >> 12);
-        places.extend(slot..slot + 4);
+        places.extend(slot..slot + SLOT_WORDS);
     }
     places
 }

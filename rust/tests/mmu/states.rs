@@ -1,25 +1,25 @@
 //! Translation states to begin with.
 
+use leavnnjar::mmu::Mmu;
+
 use super::Words;
 use super::guest::Guest;
 use crate::common::Random;
-
-const SLOTS: usize = 7;
-const LOAD: usize = 1;
-const STORE: usize = 4;
+use crate::layout::{EPOCH_AT, LOAD_AT, SHORTCUT_WORDS, SLOT_WORDS, SLOTS, SLOTS_AT, STORE_AT};
 
 /// What a call may look at besides memory: epoch, shortcuts, and the slot of the page.
-pub fn seen(words: &Words, page: u64) -> [u64; 11] {
-    let slot = slot(page);
-    let mut seen = [0; 11];
-    seen[..7].copy_from_slice(&words[..7]);
-    seen[7..].copy_from_slice(&words[slot..slot + 4]);
+pub type Seen = [u64; SLOTS_AT + SLOT_WORDS];
+
+pub fn seen(words: &Words, page: u64) -> Seen {
+    let mut seen = [0; SLOTS_AT + SLOT_WORDS];
+    seen[..SLOTS_AT].copy_from_slice(&words[..SLOTS_AT]);
+    seen[SLOTS_AT..].copy_from_slice(&words[slot(page)..][..SLOT_WORDS]);
     seen
 }
 
 /// Where the slot of a page begins.
 pub fn slot(page: u64) -> usize {
-    SLOTS + 4 * (page % 512) as usize
+    SLOTS_AT + SLOT_WORDS * (page % SLOTS as u64) as usize
 }
 
 /// An epoch at which a flush does something else: the last ones before it comes round, and 0, which
@@ -39,16 +39,16 @@ pub fn fitting(random: &mut Random, guest: &Guest) -> Words {
         1 => random.word() as u32 as u64,
         _ => random.below(4),
     };
-    let mut words = [0; 2055];
-    for four in words[SLOTS..].chunks_exact_mut(4) {
-        four.copy_from_slice(&[random.word(), 0, 0, epoch]);
+    let mut words = [0; Mmu::WORDS];
+    for slot in words[SLOTS_AT..].chunks_exact_mut(SLOT_WORDS) {
+        slot.copy_from_slice(&[random.word(), 0, 0, epoch]);
     }
-    words[0] = epoch;
+    words[EPOCH_AT] = epoch;
 
-    for shortcut in [LOAD, STORE] {
+    for shortcut in [LOAD_AT, STORE_AT] {
         let page = page_word(random, guest);
         let satp = guest.satp(random);
-        words[shortcut..shortcut + 3].copy_from_slice(&[page, result(random), satp]);
+        words[shortcut..][..SHORTCUT_WORDS].copy_from_slice(&[page, result(random), satp]);
     }
     for _ in 0..12 {
         let page = page_word(random, guest);
@@ -57,8 +57,8 @@ pub fn fitting(random: &mut Random, guest: &Guest) -> Words {
             1 => random.word() as u32 as u64,
             _ => epoch,
         };
-        let four = [page, result(random), random.word(), old];
-        words[slot(page)..][..4].copy_from_slice(&four);
+        let held = [page, result(random), random.word(), old];
+        words[slot(page)..][..SLOT_WORDS].copy_from_slice(&held);
     }
     words
 }
@@ -69,8 +69,8 @@ pub fn any(random: &mut Random, guest: &Guest) -> Words {
     for _ in 0..8 {
         let slot = slot(guest.page(random));
         let place = match random.below(2) {
-            0 => random.below(SLOTS as u64) as usize,
-            _ => slot + random.below(4) as usize,
+            0 => random.below(SLOTS_AT as u64) as usize,
+            _ => slot + random.below(SLOT_WORDS as u64) as usize,
         };
         words[place] = random.operand();
     }
