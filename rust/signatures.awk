@@ -1,5 +1,6 @@
-# Prints the functions of the door, one to a line and all in one form: those of the host (side=host, its files) or those that door.rs
-# declares (side=door). A function is given as it is called; one that is lent slices also as it passes them, each as pointer and length.
+# Prints the functions of the door, one to a line and all in one form: those of the crate host (side=host) or those that door.rs declares
+# (side=rust). A function is given as it is called; one that is lent slices also as it passes them, each as pointer and length. The length of
+# a list is given as a number; where a name stands for it, the constant is looked up in the files given, those of other crates too.
 # What these patterns do not read is a fault, so that no declaration slips through unseen.
 
 function fault(why) {
@@ -13,15 +14,39 @@ function even(text) {
     gsub(/\( /, "(", text)
     gsub(/,? \)/, ")", text)
     gsub(/ ;/, ";", text)
-    while (match(text, /\[[a-z0-9]+; [0-9]+\]/)) {
+    while (match(text, /\[[a-z][a-z0-9]*; [^]]+\]/)) {
         text = substr(text, 1, RSTART - 1) starred(substr(text, RSTART, RLENGTH)) substr(text, RSTART + RLENGTH)
     }
     return text
 }
 
-function starred(type) {
-    sub(/; /, "*", type)
-    return type
+function starred(type,   at) {
+    at = index(type, "; ")
+    return substr(type, 1, at - 1) "*" number(substr(type, at + 2, length(type) - at - 2), side) "]"
+}
+
+# What an expression of this crate comes to: a sum of products of numbers and constants.
+function number(expression, home,   n, i, terms, m, j, factors, product, sum) {
+    n = split(expression, terms, / \+ /)
+    for (i = 1; i <= n; i++) {
+        product = 1
+        m = split(terms[i], factors, / \* /)
+        for (j = 1; j <= m; j++) product *= value(factors[j], home)
+        sum += product
+    }
+    return sum
+}
+
+# A constant of the crate itself stands there by its name alone.
+function value(name, home,   path) {
+    if (name ~ /^[0-9]+$/) return name
+    if (name !~ /::/) name = home "::" name
+    if (declarations[name] != 1) {
+        fault(name ": " declarations[name] + 0 " constants have this name")
+        return 0
+    }
+    split(name, path, "::")
+    return number(constant[name], path[1])
 }
 
 function is_slice(type) {
@@ -84,7 +109,7 @@ function read_host(text,   n, i, parts) {
 }
 
 # door.rs has three ways to write a function: a safe declaration, one that passes pointers, and by a macro the form over that, which takes
-# slices and gives back a u32.
+# slices and gives back a u32. A name that it uses is its own or one of layout.rs.
 function read_door(text,   macro, at, n, i, parts, before) {
     macro = "macro_rules! takes_slices { ($(fn $name:ident($($parameter:ident: $type:ty),*) = ($($argument:expr),*);)*) => { " \
         "$(#[inline] pub fn $name($($parameter: $type),*) -> u32 { unsafe { lent::$name($($argument),*) } })* }; }"
@@ -92,6 +117,7 @@ function read_door(text,   macro, at, n, i, parts, before) {
     if (!at) fault("the macro takes_slices is not the one that is read here")
     text = substr(text, 1, at - 1) substr(text, at + length(macro))
     gsub(/unsafe extern "C" \{/, "", text)
+    gsub(/use crate::layout::(\{[A-Z_, ]+\}|[A-Z_]+);/, "", text)
 
     n = split(text, parts, /;/)
     for (i = 1; i <= n; i++) {
@@ -111,18 +137,33 @@ function read_door(text,   macro, at, n, i, parts, before) {
             if (rest != " = (" arguments ")") fault(name ": passes something else than its parameters:" rest)
         }
         if (RSTART) before = substr(before, 1, RSTART - 1)
-        if (before ~ /extern|fn |rv_|#/) fault("not read: " before)
+        if (before ~ /extern|fn |rv_|#|use /) fault("not read: " before)
     }
+}
+
+FNR == 1 {
+    depth = split(FILENAME, folders, "/")
+    crate = folders[depth - 2]
 }
 
 {
     sub(/\/\/.*/, "")
     if (/\/\*/) fault("not read: " $0)
+}
+
+match($0, /const [A-Z0-9_]+: usize = [^;]+;/) {
+    split(substr($0, RSTART + 6, RLENGTH - 7), halves, ": usize = ")
+    name = crate "::" halves[1]
+    declarations[name]++
+    constant[name] = halves[2]
+}
+
+crate == side {
     all = all " " $0
 }
 
 END {
     if (side == "host") read_host(even(all))
-    if (side == "door") read_door(even(all))
+    if (side == "rust") read_door(even(all))
     exit faults > 0
 }
