@@ -26,13 +26,13 @@ module _ (ws : List ℕ) (a : ℕ) {p : Place} {k mode : PrivMode} (e : p ≡ pl
 
   -- an answer x of a write, by cases
   module _ (v : ℕ) {x : Reading} (r : reading x ≡ writeThrough (p .view) (getD ws (p .word) 0) v (midelegIn ws) (mstatusIn ws) k) where
-    pub write-value : {n : ℕ} → x ≡ Value n → (accepted ≡ csrAnswer (newWord ws a v mode)) × (set ws (p .word) n ≡ writeRegister ws a v mode)
-    write-value {n} g =
+    pub write-here : {n : ℕ} → x ≡ Value n → (accepted ≡ csrAnswer (newWord ws a v mode)) × (set ws (p .word) n ≡ writeRegister ws a v mode)
+    write-here {n} g =
         let t : done n ≡ newWord ws a v mode = ap reading (sym g) ∙ new-here v r
         in (ap csrAnswer t, ap (λ (q : Place). set ws (q .word) n) e ∙ ap (λ (u : Answer ℕ). stored (u .values) ws (placeOf a .word)) t)
 
-    pub write-refused : {y : Refusal} → x ≡ Refused y → (refused (numberOf y) ≡ csrAnswer (newWord ws a v mode)) × (ws ≡ writeRegister ws a v mode)
-    write-refused {y} g =
+    pub refuse-here : {y : Refusal} → x ≡ Refused y → (refused (numberOf y) ≡ csrAnswer (newWord ws a v mode)) × (ws ≡ writeRegister ws a v mode)
+    refuse-here {y} g =
         let t : refused (numberOf y) ≡ newWord ws a v mode = ap reading (sym g) ∙ new-here v r
         in (ap csrAnswer t, ap (λ (u : Answer ℕ). stored (u .values) ws (placeOf a .word)) t)
 

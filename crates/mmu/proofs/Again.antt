@@ -17,12 +17,13 @@ use Rattle.walk.specs.declared.Kind.the-variants.{Fetch, Load, Store}
 use Rattle.walk.specs.declared.Access.{Access}
 use Rattle.walk.specs.declared.VirtPage.{VirtPage}
 use Rattle.walk.specs.declared.PhysPage.{PhysPage}
-use Rattle.mmu.specs.Answers.{causeOf, faultOf, withoutReads}
+use Rattle.mmu.specs.Answers.{faultOf, withoutReads}
 use Rattle.mmu.specs.Cache.{slotOf, shortcutTo, emptySlot, newMmu, Call, pageOf, frameOf, inFrame, unpaged, accepts, freshWalk, serves, live, matches, quick, afterWalk, lookShortcut, lookSlot, look, decide, answerOf, zeroSlot, slotAt, shortcutOf, withShortcut, remember, fill, applied, outcomeOn, translate, flush}
 use Rattle.mmu.specs.History.{Event, flushed, called, peeked, step, run}
 use Rattle.mmu.specs.declared.Translation.the-variants.{At}
 use Rattle.mmu.specs.declared.TlbEntry.{TlbEntry}
 use Rattle.mmu.specs.declared.Mmu.{Mmu}
+use Rattle.mmu.proofs.Determined.{code-positive}
 use Rattle.mmu.proofs.Tests.{SameFrame, framed}
 use Rattle.mmu.proofs.Sound.{slotHit, shortHit, translate-ind, sure}
 
@@ -64,13 +65,12 @@ fill-hit n s x page frame leaf pos size f h =
     let at : getD (set (s .tlb) (page .0 % n) y) (page .0 % n) zeroSlot ≡ y = getD-set-same (s .tlb) (page .0 % n) y zeroSlot (rw size (mod-lt (page .0) pos)) in
     (rw (at, eq-eqb (page .0) (page .0) refl, eq-eqb (s .epoch) (s .epoch) refl) (fetch-serves x leaf f h), ap (λ (z : TlbEntry). z .frame) at)
 
-fault-number : (k : Kind) (a : ℕ) → causeOf (faultOf k a) ≡ 0 → ⊥
-fault-number Fetch a e = omega arith
-fault-number Load a e = omega arith
-fault-number Store a e = omega arith
-
 value : {a t : ℕ} → _≡_ {A = Answer ℕ} (done a) (done t) → a ≡ t
 value e = ap (λ (u : Answer ℕ). given (u .values) 0) e
+
+accepted-if-done : (n : ℕ) (s : Mmu) (c : Call) (t : ℕ) → withoutReads (translate n s c .answer) ≡ done t → accepts c ≡ true
+unfolding translate outcomeOn decide look lookShortcut lookSlot
+accepted-if-done n s c t ok = by-test (accepts c) (λ u. u) (λ u. absurd (let z : 4 ≡ 0 = ap (λ (w : Answer ℕ). w .number) (rw u at ok) in omega arith))
 
 found-again : (n : ℕ) (s : Mmu) (c : Call) (t : ℕ) → 0 < n → length (s .tlb) ≡ n → unpaged (c .satp) ≡ false → withoutReads (translate n s c .answer) ≡ done t
     → Finds n (translate n s c .mmu) (c .access) (c .satp) (pageOf (c .address)) (frameOf t)
@@ -78,13 +78,12 @@ unfolding translate outcomeOn decide look lookShortcut lookSlot remember freshWa
 found-again n s c t pos size v ok =
     let page = pageOf (c .address) in
     let slot = slotAt n s page .frame in
-    by-test (accepts c)
-    (λ u. by-test (shortHit s (c .access) (c .satp) page)
+    let u = accepted-if-done n s c t ok in
+    by-test (shortHit s (c .access) (c .satp) page)
     (λ q. rw (u, v, q) (by-shortcut q (rw (← value (rw (u, v, q) at ok)) (framed (shortcutOf (c .access) s .frame) (c .address)))))
     (λ q. by-test (slotHit n s (c .access) page)
     (λ l. rw (u, v, q, l) (in-frame n _ (c .access) (c .satp) page slot (frameOf t) (rw (← value (rw (u, v, q, l) at ok)) (framed slot (c .address))) (remember-found n s (c .access .kind) (c .satp) page slot (λ f. (l, refl)))))
-    (λ l. rw (u, v, q, l) (onWalk (freshWalk c) refl (rw (u, v, q, l) at ok)))))
-    (λ u. absurd (let z : 4 ≡ 0 = ap (λ (w : Answer ℕ). w .number) (rw u at ok) in omega arith))
+    (λ l. rw (u, v, q, l) (onWalk (freshWalk c) refl (rw (u, v, q, l) at ok))))
   where
     onWalk : (w : Reached) → freshWalk c ≡ w → withoutReads (answerOf (afterWalk c w)) ≡ done t
         → Finds n (applied n s c (afterWalk c w)) (c .access) (c .satp) (pageOf (c .address)) (frameOf t)
@@ -92,7 +91,7 @@ found-again n s c t pos size v ok =
         rw (← value z)
         (remember-found n (fill n s (pageOf (c .address)) (frameOf b) e) (c .access .kind) (c .satp) (pageOf (c .address)) (frameOf b)
         (λ f. fill-hit n s (c .access) (pageOf (c .address)) (frameOf b) e pos size f (sure (c .access) (c .address) (trailOf (c .memory) (c .address) (c .satp) .stop) b e h .allowed)))
-    onWalk lost h z = absurd (fault-number (c .access .kind) (c .address) (ap (λ (w : Answer ℕ). w .number) z))
+    onWalk lost h z = absurd (code-positive (faultOf (c .access .kind) (c .address)) (ap (λ (w : Answer ℕ). w .number) z))
 
 -- a state keeps its number of slots
 size-remember : (s : Mmu) (d : Call) (frame : PhysPage) → length (remember s d frame .tlb) ≡ length (s .tlb)
@@ -129,10 +128,6 @@ pub record Again (c d : Call) : Type 0 where
 straight : (n : ℕ) (s : Mmu) (d : Call) → accepts d ≡ true → unpaged (d .satp) ≡ true → translate n s d .answer ≡ At (d .address) 0
 unfolding translate outcomeOn decide look lookShortcut lookSlot
 straight n s d u v = rw (u, v)
-
-accepted-if-done : (n : ℕ) (s : Mmu) (c : Call) (t : ℕ) → withoutReads (translate n s c .answer) ≡ done t → accepts c ≡ true
-unfolding translate outcomeOn decide look lookShortcut lookSlot
-accepted-if-done n s c t ok = by-test (accepts c) (λ u. u) (λ u. absurd (let z : 4 ≡ 0 = ap (λ (w : Answer ℕ). w .number) (rw u at ok) in omega arith))
 
 again : (n : ℕ) (s : Mmu) (c d : Call) (t : ℕ) → 0 < n → length (s .tlb) ≡ n → withoutReads (translate n s c .answer) ≡ done t
     → Again c d → accepts d ≡ true → d .address < 2 ^ 64 → translate n (translate n s c .mmu) d .answer ≡ At (inFrame (frameOf t) (d .address)) 0

@@ -19,7 +19,7 @@ called-on n s c {i} {q} {o} e f h =
     ∙ ap₂ (λ (j : ℕ) (p : Shortcut). decide (getD (s .tlb) j zeroSlot) (s .epoch) p c) e f
 
 -- and what is returned, once a match found it to be x
-pub put : (n : ℕ) (s : Mmu) (c : Call) {o x : Outcome} → o ≡ x → o ≡ outcomeOn n s c
+pub returned : (n : ℕ) (s : Mmu) (c : Call) {o x : Outcome} → o ≡ x → o ≡ outcomeOn n s c
     → _≡_ {A = Translated} (record { answer = answerOf x; mmu = applied n s c x }) (translate n s c)
 unfolding translate
-put n s c e h = ap (λ (y : Outcome). record { answer = answerOf y; mmu = applied n s c y }) (sym e ∙ h)
+returned n s c e h = ap (λ (y : Outcome). record { answer = answerOf y; mmu = applied n s c y }) (sym e ∙ h)

@@ -13,13 +13,12 @@ use Rattle.answers.proofs.Determined.{number-positive}
 use Rattle.walk.specs.Walk.{Reached, found, lost}
 use Rattle.walk.specs.declared.Kind.{Kind}
 use Rattle.walk.specs.declared.Kind.the-variants.{Fetch, Load, Store}
-use Rattle.mmu.specs.Answers.{causeOf, translation, withoutReads}
+use Rattle.mmu.specs.Answers.{translation, withoutReads}
 use Rattle.mmu.specs.Cache.{Call, callOf, frameOf, inFrame, accepts, freshWalk, answerOf}
 use Rattle.mmu.specs.History.{Event, called, paged, Undisturbed, reachedAnswer, freshAnswer}
-use Rattle.mmu.specs.declared.MmuFault.{MmuFault}
-use Rattle.mmu.specs.declared.MmuFault.the-variants.{LoadPageFault, StorePageFault, InstructionPageFault, LoadAccessFault, StoreAccessFault, InstructionAccessFault}
 use Rattle.mmu.specs.declared.Translation.{Translation}
 use Rattle.mmu.specs.declared.Translation.the-variants.{At, Fault, Refused}
+use Rattle.mmu.proofs.Determined.{code-positive}
 use Rattle.mmu.proofs.Again.{Again}
 use Rattle.mmu_words.specs.Words.{newWords, outcomeIn, givenPair, Translates, wordsStep, wordsRun}
 use Rattle.mmu_words.proofs.Demanded.{words-fresh, words-free}
@@ -75,14 +74,6 @@ first-word (Refused e) old h = let z : _≡_ {A = ℕ} 0 1 = cc in absurd (omega
 fresh-given : (c : Call) (w : Reached) → isGiven (reachedAnswer c w .values) ≡ true
 fresh-given c (found t e) = refl
 fresh-given c lost = refl
-
-code-positive : (f : MmuFault) → causeOf f ≡ 0 → ⊥
-code-positive (LoadPageFault a) e = omega arith
-code-positive (StorePageFault a) e = omega arith
-code-positive (InstructionPageFault a) e = omega arith
-code-positive (LoadAccessFault a) e = omega arith
-code-positive (StoreAccessFault a) e = omega arith
-code-positive (InstructionAccessFault a) e = omega arith
 
 succeeded : (x : Translation) (old : List ℕ) → translation x .number ≡ 0 → withoutReads x ≡ done (getD (givenPair (translation x .values) old) 0 0)
 succeeded (At a n) old h = refl

@@ -1,7 +1,7 @@
 -- `host::control::rv_csr_write` meets its contract: the word that the write of it tells, and no other. Assumes nothing.
 use mathlib.Core.Path.{refl}
 use Rattle.csr_list.proofs.Places.{held}
-use Rattle.csr.proofs.Files.{write-value, write-refused, by-number}
+use Rattle.csr.proofs.Files.{write-here, refuse-here, by-number}
 use borrow.Author.Needs.{needs}
 use Rattle.host.proofs.control.rv_csr_write.Statement.{statement}
 use Rattle.host.proofs.control.rv_csr_write.Tie as tie
@@ -46,10 +46,10 @@ number-requires : tie.Need-number-requires
 number-requires c κs = search needs
 
 returns : tie.Need-returns
-returns c = by-number refl (write-value (c .before .before .before .before .before .before .before .before .before .before .args .csr .now) _ (held _ (c .before .before .before .before .before .before .before .before .before .entry-of .ensures .0) (c .before .before .before .before .before .before .before .before .place-in .ensures .0)) (c .before .before .before .before .before .before .before .from-bits .ensures) _ (c .before .before .before .write-word .ensures) (c .before .word .given .1))
+returns c = by-number refl (write-here (c .before .before .before .before .before .before .before .before .before .before .args .csr .now) _ (held _ (c .before .before .before .before .before .before .before .before .before .entry-of .ensures .0) (c .before .before .before .before .before .before .before .before .place-in .ensures .0)) (c .before .before .before .before .before .before .before .from-bits .ensures) _ (c .before .before .before .write-word .ensures) (c .before .word .given .1))
 
 returns-2 : tie.Need-returns-2
-returns-2 c = by-number (c .number .ensures) (write-refused (c .before .before .before .before .before .before .before .before .before .before .before .args .csr .now) _ (held _ (c .before .before .before .before .before .before .before .before .before .before .entry-of .ensures .0) (c .before .before .before .before .before .before .before .before .before .place-in .ensures .0)) (c .before .before .before .before .before .before .before .before .from-bits .ensures) _ (c .before .before .before .before .write-word .ensures) (c .before .before .refusal .given .1))
+returns-2 c = by-number (c .number .ensures) (refuse-here (c .before .before .before .before .before .before .before .before .before .before .before .args .csr .now) _ (held _ (c .before .before .before .before .before .before .before .before .before .before .entry-of .ensures .0) (c .before .before .before .before .before .before .before .before .before .place-in .ensures .0)) (c .before .before .before .before .before .before .before .before .from-bits .ensures) _ (c .before .before .before .before .write-word .ensures) (c .before .before .refusal .given .1))
 
 pub rv-csr-write-spec : {M : Type 1} → statement M
 rv-csr-write-spec =
