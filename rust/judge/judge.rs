@@ -1,10 +1,13 @@
-//! Compares the library's M and A arithmetic with that of an outside RISC-V processor.
+//! Compares the library's M and A arithmetic with that of an outside RISC-V processor, and what its
+//! CSR file shows S-mode of mstatus.
 //!
 //! `judge operands FILE` writes the operand pairs for judge.c to execute; `judge compare OPERANDS
-//! ANSWERS` holds its answers to the library's. `run` does both.
+//! ANSWERS` holds its answers to the library's; `judge sstatus ANSWERS` does so with those of
+//! sstatus.c. `run` does all three.
 
 #[path = "../tests/common.rs"]
 mod common;
+mod sstatus;
 
 use std::fmt::Debug;
 use std::process::ExitCode;
@@ -64,7 +67,8 @@ fn main() -> ExitCode {
     match arguments[..] {
         ["operands", file] => write_operands(file),
         ["compare", operands, answers] => compare(&read(operands), &read(answers)),
-        _ => panic!("judge operands FILE | judge compare OPERANDS ANSWERS"),
+        ["sstatus", answers] => sstatus::compare(&read(answers)),
+        _ => panic!("judge operands FILE | judge compare OPERANDS ANSWERS | judge sstatus ANSWERS"),
     }
 }
 

@@ -3,7 +3,8 @@
 //!
 //! mmu.rs and system_bus.rs name `crate::perf` and `crate::syscall_trace`, which have much else in
 //! them: small stand-ins are in this folder. So is `counted`, a bus that counts. What is appended gives
-//! the words of a state as the wrapper has them, by its `layout`.
+//! the words of a state as the wrapper has them, by its `layout`. `rules` has what the original no
+//! longer decides.
 
 pub mod counted;
 #[path = "../../target/oracle/csr.rs"]
@@ -19,6 +20,7 @@ pub mod layout;
 #[path = "../../target/oracle/mmu.rs"]
 pub mod mmu;
 mod perf;
+pub mod rules;
 pub mod syscall_trace;
 #[path = "../../target/oracle/system_bus.rs"]
 pub mod system_bus;

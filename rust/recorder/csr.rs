@@ -3,6 +3,7 @@
 
 use oracle::csr::{self as original, Csr, PrivMode};
 use oracle::layout::CSR_WORDS;
+use oracle::rules::csr as rules;
 
 use crate::common::Random;
 use crate::list::{Change, List, changed, not_zero};
@@ -91,7 +92,7 @@ impl<'a> File<'a> {
     }
 
     fn read(&mut self, address: u32, mode: u64) {
-        let answer = match self.csr.read_register(address, PrivMode::from_bits(mode)) {
+        let answer = match rules::read_register(&self.csr, address, PrivMode::from_bits(mode)) {
             Some(value) => [0, value],
             None => [self.refusal(address, mode), 0],
         };

@@ -7,7 +7,7 @@
 //! let mut csr = Csr::new();
 //! csr.write_register(MSTATUS, u64::MAX, PrivMode::M)?;
 //! assert_eq!(csr.read_register(MSTATUS, PrivMode::M)?, 0x8000_000A_007F_FFEA);
-//! assert_eq!(csr.read_register(SSTATUS, PrivMode::S)?, 0xD_E762);
+//! assert_eq!(csr.read_register(SSTATUS, PrivMode::S)?, 0x8000_0002_000D_E762);
 //!
 //! // There is no CSR 0x7FF. And now TVM is set, which closes SATP to S-mode.
 //! assert_eq!(csr.read_register(0x7FF, PrivMode::M), Err(Refusal::CsrAddress));

@@ -6,6 +6,7 @@ mod constants;
 mod fields;
 mod inputs;
 mod interrupts;
+mod sstatus;
 
 use std::fmt::Debug;
 
@@ -34,6 +35,7 @@ pub fn compare(seed: u64) -> Tally {
     constants::compare(&mut tally);
     modes(&mut tally, &mut random);
     fields::compare(&mut tally, &mut random);
+    sstatus::compare(&mut tally, &mut random);
     let reset = new(&mut tally, &mut random);
 
     // From the reset state first: what differs there is the easiest to read.
@@ -211,7 +213,7 @@ fn run<L: Library>(tally: &mut Tally, start: &Words, calls: impl IntoIterator<It
     let mut before = *start;
 
     for call in calls {
-        let expected = call.original(&mut original, UNTOUCHED);
+        let expected = call.expected(&mut original, UNTOUCHED);
         let after = original.oracle_words();
 
         tally.calls(call.name(), 1);
@@ -229,7 +231,7 @@ fn run<L: Library>(tally: &mut Tally, start: &Words, calls: impl IntoIterator<It
                 answer: expected,
                 changed: changed(&before, &after),
             };
-            tally.differ(call.name(), input, ours, "original", theirs);
+            tally.differ(call.name(), input, ours, call.judge(), theirs);
             // From the same state on, so that one fault is not counted again and again.
             library = L::at(&after);
         }

@@ -1,12 +1,14 @@
--- A field of a word is tested by its mask: the two ways of a test, over the field's place. Assumes nothing.
+-- A field of a word: the two ways of a test by its mask, and what a mask leaves of it; over the field's place. Assumes nothing.
 use mathlib.Core.Path.{_≡_, sym, ap, _∙_}
 use mathlib.Core.Bool.{true, false, not}
 use Prim.Native.Nat.{ℕ, _+_, _-_, _*_, _/_, _%_, _^_}
+use native.Mathlib.Nat.{mod-lt, mod-eq-of-lt}
 use native.Mathlib.Omega.{arith}
 use borrow.Author.Tests.{eq-eqb, ne-eqb, eqb-true, eqb-false}
-use lib.Bits.{bitAnd, and-high}
+use lib.Bits.{bitAnd, bitOr, and-high, and-mask, and-mod, and-shr, and-zero-r, or-mod, or-shr}
 use lib.Dec.{eqb}
-use lib.Pow.{shl-shr}
+use lib.Pow.{pow-pos, shl-shr}
+use Rattle.answers.specs.Bits.{bits}
 use Rattle.answers.proofs.Orders.{by-test}
 
 -- the j bits from k on are v exactly if v stands there under their mask
@@ -41,3 +43,19 @@ module _ (k w : ℕ) where
       by-test (eqb (bitAnd w (2 ^ (1 + k) - 2 ^ k)) 0)
       (λ e. rw (e, off (eqb-true _ 0 e)))
       (λ e. rw (e, on (eqb-false _ 0 e)))
+
+-- ---- a field of a word under a mask
+
+module _ (hi lo : ℕ) where
+  meets : (w m : ℕ) → bits hi lo (bitAnd w m) ≡ bitAnd (bits hi lo w) (bits hi lo m)
+  meets w m = ap (λ (n : ℕ). n % 2 ^ (hi + 1 - lo)) (and-shr w m lo) ∙ and-mod (w / 2 ^ lo) (m / 2 ^ lo) (hi + 1 - lo)
+
+  pub joined : (w v : ℕ) → bits hi lo (bitOr w v) ≡ bitOr (bits hi lo w) (bits hi lo v)
+  joined w v = ap (λ (n : ℕ). n % 2 ^ (hi + 1 - lo)) (or-shr w v lo) ∙ or-mod (w / 2 ^ lo) (v / 2 ^ lo) (hi + 1 - lo)
+
+  -- a mask that has all of it shows it as it is; of one that has nothing of it, it is 0
+  pub shows : (w m : ℕ) → bits hi lo m ≡ 2 ^ (hi + 1 - lo) - 1 → bits hi lo (bitAnd w m) ≡ bits hi lo w
+  shows w m e = meets w m ∙ ap (bitAnd (bits hi lo w)) e ∙ and-mask (bits hi lo w) (hi + 1 - lo) ∙ mod-eq-of-lt (mod-lt (w / 2 ^ lo) (pow-pos (hi + 1 - lo)))
+
+  pub hides : (w m : ℕ) → bits hi lo m ≡ 0 → bits hi lo (bitAnd w m) ≡ 0
+  hides w m e = meets w m ∙ ap (bitAnd (bits hi lo w)) e ∙ and-zero-r (bits hi lo w)

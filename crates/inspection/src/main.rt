@@ -59,7 +59,7 @@ fn status() {
     );
     answered(
         b"sstatus then",
-        0xDE762,
+        0x8000_0002_000D_E762,
         file.read_register(Csr::SSTATUS, PrivMode::M),
     );
 }

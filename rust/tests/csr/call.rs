@@ -5,6 +5,7 @@ use std::hint::black_box;
 use leavnnjar::Refusal;
 use leavnnjar::csr::{self as ours, Csr};
 use oracle::csr::{self as original, Csr as Original};
+use oracle::rules::csr as rules;
 
 use super::Words;
 use crate::door;
@@ -36,18 +37,27 @@ pub struct Answer {
 impl Call {
     pub fn name(self) -> &'static str {
         match self {
+            Self::Read { address, .. } if !rules::decides(address) => "read_register of sstatus",
             Self::Read { .. } => "read_register",
             Self::Write { .. } => "write_register",
             Self::Pending { .. } => "pending_interrupt",
         }
     }
 
-    /// What the original answers, and by the rule the number of what it refuses.
-    pub fn original(self, csr: &mut Original, untouched: u64) -> Answer {
+    /// Who says what it answers.
+    pub fn judge(self) -> &'static str {
+        match self {
+            Self::Read { address, .. } if !rules::decides(address) => "rule",
+            _ => "original",
+        }
+    }
+
+    /// What the judge answers, and by the rule the number of what is refused.
+    pub fn expected(self, csr: &mut Original, untouched: u64) -> Answer {
         let (number, out) = match self {
             Self::Read { address, privilege } => {
                 let mode = original::PrivMode::from_bits(privilege);
-                match csr.read_register(address, mode) {
+                match rules::read_register(csr, address, mode) {
                     Some(value) => (0, value),
                     None => (refusal(csr, address, mode), untouched),
                 }

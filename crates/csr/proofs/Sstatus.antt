@@ -1,0 +1,88 @@
+-- What sstatus shows of mstatus: all that a read of mstatus gives, under one mask. So its SD tells whether FS, XS or VS is dirty; and UXL shows,
+-- but no write of sstatus reaches it. Assumes nothing.
+use mathlib.Core.Path.{_≡_, refl, sym, ap, _∙_}
+use mathlib.Core.Bool.{Bool, true, false, cond, _||_}
+use mathlib.Core.List.{List}
+use Prim.Native.Nat.{ℕ, _+_, _-_, _*_, _/_, _%_, _^_}
+use native.Mathlib.Nat.{div-one}
+use native.Mathlib.Omega.{arith}
+use lib.Bits.{bitAnd, bitOr, and-mask, or-zero-r}
+use lib.Dec.{eqb}
+use Rattle.answers.specs.Answer.{Answer, done, given}
+use Rattle.answers.specs.Bits.{bits}
+use Rattle.csr_list.specs.List.{placeOf}
+use Rattle.csr.specs.Views.{every, except, sstatusMask, sstatusReadMask, someDirty, withSd, readThrough, writeThrough}
+use Rattle.csr.specs.Registers.{mstatusIn, readRegister, newWord}
+use Rattle.csr.specs.declared.PrivMode.{PrivMode}
+use Rattle.csr.proofs.Fields.{joined, shows, hides}
+
+-- ---- the word with SD
+
+alike : (v w : ℕ) → bits 14 13 v ≡ bits 14 13 w → bits 16 15 v ≡ bits 16 15 w → bits 10 9 v ≡ bits 10 9 w → someDirty v ≡ someDirty w
+alike v w e f g = λ i. eqb (e i) 3 || (eqb (f i) 3 || eqb (g i) 3)
+
+-- the low 63 bits, and SD above them
+abbrev topped : ℕ → Bool → ℕ
+topped w sd = w % 2 ^ 63 + cond sd (2 ^ 63) 0
+
+module _ (w : ℕ) where
+  sd-fits : (sd : Bool) → topped w sd % 2 ^ 64 ≡ topped w sd
+  sd-fits true = omega arith
+  sd-fits false = omega arith
+
+  sd-alone : (sd : Bool) → eqb (bits 63 63 (topped w sd)) 1 ≡ sd
+  sd-alone true = ap (λ (n : ℕ). eqb n 1) {x = bits 63 63 (w % 2 ^ 63 + 2 ^ 63)} {y = 1} (omega arith)
+  sd-alone false = ap (λ (n : ℕ). eqb n 1) {x = bits 63 63 (w % 2 ^ 63 + 0)} {y = 0} (omega arith)
+
+  fields-below : (sd : Bool) → someDirty (topped w sd) ≡ someDirty w
+  fields-below true = alike (w % 2 ^ 63 + 2 ^ 63) w (omega arith) (omega arith) (omega arith)
+  fields-below false = alike (w % 2 ^ 63 + 0) w (omega arith) (omega arith) (omega arith)
+
+-- ---- the two reads
+
+told : Answer ℕ → ℕ
+told t = given (t .values) 0
+
+same : {x y : ℕ} → done x ≡ done y → x ≡ y
+unfolding told
+same e = ap told e
+
+module _ (ws : List ℕ) (mode : PrivMode) where
+  mstatus-read : readRegister ws 0x300 mode ≡ done (withSd (mstatusIn ws))
+  unfolding readThrough placeOf
+  mstatus-read = ap done (div-one (bitAnd (withSd (mstatusIn ws)) every) ∙ and-mask (withSd (mstatusIn ws)) 64 ∙ sd-fits (mstatusIn ws) (someDirty (mstatusIn ws)))
+
+  sstatus-read : readRegister ws 0x100 mode ≡ done (bitAnd (withSd (mstatusIn ws)) sstatusReadMask)
+  unfolding readThrough placeOf
+  sstatus-read = ap done (div-one (bitAnd (withSd (mstatusIn ws)) sstatusReadMask))
+
+-- what sstatus shows, in any mode, is what mstatus shows, in any mode, under the mask
+pub sstatus-under-mask : (ws : List ℕ) (m n : PrivMode) {x : ℕ} → readRegister ws 0x300 m ≡ done x → readRegister ws 0x100 n ≡ done (bitAnd x sstatusReadMask)
+sstatus-under-mask ws m n e = sstatus-read ws n ∙ ap (λ (y : ℕ). done (bitAnd y sstatusReadMask)) (same (sym (mstatus-read ws m) ∙ e))
+
+-- SD is set there exactly if FS, XS or VS is 3; and S sees these three as they are
+module _ (ws : List ℕ) (mode : PrivMode) {v : ℕ} (e : readRegister ws 0x100 mode ≡ done v) where
+  under-mask : v ≡ bitAnd (withSd (mstatusIn ws)) sstatusReadMask
+  under-mask = same (sym e ∙ sstatus-read ws mode)
+
+  pub sd-in-sstatus : eqb (bits 63 63 v) 1 ≡ someDirty (mstatusIn ws)
+  sd-in-sstatus = ap (λ (n : ℕ). eqb (bits 63 63 n) 1) under-mask ∙ ap (λ (n : ℕ). eqb n 1) (shows 63 63 (withSd (mstatusIn ws)) sstatusReadMask refl) ∙ sd-alone (mstatusIn ws) (someDirty (mstatusIn ws))
+
+  pub dirty-in-sstatus : someDirty v ≡ someDirty (mstatusIn ws)
+  dirty-in-sstatus = ap someDirty under-mask ∙ alike (bitAnd (withSd (mstatusIn ws)) sstatusReadMask) (withSd (mstatusIn ws)) (as-is 14 13 refl) (as-is 16 15 refl) (as-is 10 9 refl) ∙ fields-below (mstatusIn ws) (someDirty (mstatusIn ws))
+    where
+      as-is : (hi lo : ℕ) → bits hi lo sstatusReadMask ≡ 2 ^ (hi + 1 - lo) - 1 → bits hi lo (bitAnd (withSd (mstatusIn ws)) sstatusReadMask) ≡ bits hi lo (withSd (mstatusIn ws))
+      as-is hi lo = shows hi lo (withSd (mstatusIn ws)) sstatusReadMask
+
+-- ---- the write
+
+-- UXL stays what it is
+pub uxl-stays : (ws : List ℕ) (value : ℕ) (mode : PrivMode) {n : ℕ} → newWord ws 0x100 value mode ≡ done n → bits 33 32 n ≡ bits 33 32 (mstatusIn ws)
+unfolding writeThrough placeOf
+uxl-stays ws value mode e =
+    let old : ℕ = bitAnd (mstatusIn ws) (except sstatusMask)
+    in ap (bits 33 32) (same (sym e))
+    ∙ joined 33 32 old (bitAnd (value * 2 ^ 0 % 2 ^ 64) sstatusMask)
+    ∙ ap (bitOr (bits 33 32 old)) (hides 33 32 (value * 2 ^ 0 % 2 ^ 64) sstatusMask refl)
+    ∙ or-zero-r (bits 33 32 old)
+    ∙ shows 33 32 (mstatusIn ws) (except sstatusMask) refl
