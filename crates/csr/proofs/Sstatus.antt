@@ -1,7 +1,7 @@
 -- What sstatus shows of mstatus: all that a read of mstatus gives, under one mask. So its SD tells whether FS, XS or VS is dirty; and UXL shows,
 -- but no write of sstatus reaches it. Assumes nothing.
 use mathlib.Core.Path.{_≡_, refl, sym, ap, _∙_}
-use mathlib.Core.Bool.{Bool, true, false, cond, _||_}
+use mathlib.Core.Bool.{Bool, true, false, cond}
 use mathlib.Core.List.{List}
 use Prim.Native.Nat.{ℕ, _+_, _-_, _*_, _%_, _^_}
 use native.Mathlib.Nat.{div-one}
@@ -18,8 +18,9 @@ use Rattle.csr.proofs.Fields.{joined, shows, hides}
 
 -- ---- the word with SD
 
-alike : (v w : ℕ) → bits 14 13 v ≡ bits 14 13 w → bits 16 15 v ≡ bits 16 15 w → bits 10 9 v ≡ bits 10 9 w → someDirty v ≡ someDirty w
-alike v w e f g = λ i. eqb (e i) 3 || (eqb (f i) 3 || eqb (g i) 3)
+-- FS, XS and VS are the same
+abbrev pub Alike : ℕ → ℕ → Type 0
+Alike v w = (bits 14 13 v ≡ bits 14 13 w) × ((bits 16 15 v ≡ bits 16 15 w) × (bits 10 9 v ≡ bits 10 9 w))
 
 -- the low 63 bits, and SD above them
 abbrev topped : ℕ → Bool → ℕ
@@ -34,9 +35,9 @@ module _ (w : ℕ) where
   sd-alone true = ap (λ (n : ℕ). eqb n 1) {x = bits 63 63 (w % 2 ^ 63 + 2 ^ 63)} {y = 1} (omega arith)
   sd-alone false = ap (λ (n : ℕ). eqb n 1) {x = bits 63 63 (w % 2 ^ 63 + 0)} {y = 0} (omega arith)
 
-  fields-below : (sd : Bool) → someDirty (topped w sd) ≡ someDirty w
-  fields-below true = alike (w % 2 ^ 63 + 2 ^ 63) w (omega arith) (omega arith) (omega arith)
-  fields-below false = alike (w % 2 ^ 63 + 0) w (omega arith) (omega arith) (omega arith)
+  fields-below : (sd : Bool) → Alike (topped w sd) w
+  fields-below true = (omega arith, (omega arith, omega arith))
+  fields-below false = (omega arith, (omega arith, omega arith))
 
 -- ---- the two reads
 
@@ -68,11 +69,13 @@ module _ (ws : List ℕ) (mode : PrivMode) {v : ℕ} (e : readRegister ws 0x100 
   pub sd-in-sstatus : eqb (bits 63 63 v) 1 ≡ someDirty (mstatusIn ws)
   sd-in-sstatus = ap (λ (n : ℕ). eqb (bits 63 63 n) 1) under-mask ∙ ap (λ (n : ℕ). eqb n 1) (shows 63 63 (withSd (mstatusIn ws)) sstatusReadMask refl) ∙ sd-alone (mstatusIn ws) (someDirty (mstatusIn ws))
 
-  pub dirty-in-sstatus : someDirty v ≡ someDirty (mstatusIn ws)
-  dirty-in-sstatus = ap someDirty under-mask ∙ alike (bitAnd (withSd (mstatusIn ws)) sstatusReadMask) (withSd (mstatusIn ws)) (as-is 14 13 refl) (as-is 16 15 refl) (as-is 10 9 refl) ∙ fields-below (mstatusIn ws) (someDirty (mstatusIn ws))
+  pub fields-in-sstatus : Alike v (mstatusIn ws)
+  fields-in-sstatus =
+      let below : Alike (withSd (mstatusIn ws)) (mstatusIn ws) = fields-below (mstatusIn ws) (someDirty (mstatusIn ws))
+      in (as-is 14 13 refl ∙ below .0, (as-is 16 15 refl ∙ below .1 .0, as-is 10 9 refl ∙ below .1 .1))
     where
-      as-is : (hi lo : ℕ) → bits hi lo sstatusReadMask ≡ 2 ^ (hi + 1 - lo) - 1 → bits hi lo (bitAnd (withSd (mstatusIn ws)) sstatusReadMask) ≡ bits hi lo (withSd (mstatusIn ws))
-      as-is hi lo = shows hi lo (withSd (mstatusIn ws)) sstatusReadMask
+      as-is : (hi lo : ℕ) → bits hi lo sstatusReadMask ≡ 2 ^ (hi + 1 - lo) - 1 → bits hi lo v ≡ bits hi lo (withSd (mstatusIn ws))
+      as-is hi lo e = ap (bits hi lo) under-mask ∙ shows hi lo (withSd (mstatusIn ws)) sstatusReadMask e
 
 -- ---- the write
 
