@@ -13,7 +13,7 @@ typedef unsigned char u8;
 enum { READY = 0x20, OFF = 0x5555 };
 
 // The lowest bit of each field that S-mode sees and this processor takes, and how many bits it has:
-// SIE, SPIE, SPP, VS, FS, SUM, MXR. XS and UXL are read-only there, and it has no UBE.
+// SIE, SPIE, SPP, VS, FS, SUM, MXR. XS is read-only 0 there, it has no UBE, and UXL is left as it is.
 static const struct {
     int lowest, bits;
 } fields[] = {{1, 1}, {5, 1}, {8, 1}, {9, 2}, {13, 2}, {18, 1}, {19, 1}};
@@ -58,7 +58,7 @@ static u64 seen_in_s(void)
 
 void begin(void)
 {
-    // S-mode may read and execute all memory.
+    // S-mode may read, write and execute all memory.
     asm volatile("csrw pmpaddr0, %0\n"
                  "csrw pmpcfg0, %1\n"
                  :

@@ -3,18 +3,20 @@
 use mathlib.Core.Path.{_≡_, refl, sym, ap, _∙_}
 use mathlib.Core.Bool.{Bool, true, false, cond}
 use mathlib.Core.List.{List}
-use Prim.Native.Nat.{ℕ, _+_, _-_, _*_, _%_, _^_}
+use Prim.Native.Nat.{ℕ, _+_, _-_, _*_, _%_, _^_, _<_}
 use native.Mathlib.Nat.{div-one}
 use native.Mathlib.Omega.{arith}
-use lib.Bits.{bitAnd, bitOr, and-mask, or-zero-r}
+use lib.Bits.{bitAnd, bitOr, or-zero-r}
 use lib.Dec.{eqb}
-use Rattle.answers.specs.Answer.{Answer, done, given}
+use Rattle.answers.specs.Answer.{done}
 use Rattle.answers.specs.Bits.{bits}
+use Rattle.answers.proofs.Determined.{same-value}
 use Rattle.csr_list.specs.List.{placeOf}
 use Rattle.csr.specs.Views.{every, except, sstatusMask, sstatusReadMask, someDirty, withSd, readThrough, writeThrough}
 use Rattle.csr.specs.Registers.{mstatusIn, readRegister, newWord}
 use Rattle.csr.specs.declared.PrivMode.{PrivMode}
 use Rattle.csr.proofs.Fields.{joined, shows, hides}
+use Rattle.csr.proofs.Rules.{all-of}
 
 -- ---- the word with SD
 
@@ -27,7 +29,7 @@ abbrev topped : ℕ → Bool → ℕ
 topped w sd = w % 2 ^ 63 + cond sd (2 ^ 63) 0
 
 module _ (w : ℕ) where
-  sd-fits : (sd : Bool) → topped w sd % 2 ^ 64 ≡ topped w sd
+  sd-fits : (sd : Bool) → topped w sd < 2 ^ 64
   sd-fits true = omega arith
   sd-fits false = omega arith
 
@@ -41,17 +43,10 @@ module _ (w : ℕ) where
 
 -- ---- the two reads
 
-told : Answer ℕ → ℕ
-told t = given (t .values) 0
-
-same : {x y : ℕ} → done x ≡ done y → x ≡ y
-unfolding told
-same e = ap told e
-
 module _ (ws : List ℕ) (mode : PrivMode) where
   mstatus-read : readRegister ws 0x300 mode ≡ done (withSd (mstatusIn ws))
   unfolding readThrough placeOf
-  mstatus-read = ap done (div-one (bitAnd (withSd (mstatusIn ws)) every) ∙ and-mask (withSd (mstatusIn ws)) 64 ∙ sd-fits (mstatusIn ws) (someDirty (mstatusIn ws)))
+  mstatus-read = ap done (div-one (bitAnd (withSd (mstatusIn ws)) every) ∙ all-of (withSd (mstatusIn ws)) (sd-fits (mstatusIn ws) (someDirty (mstatusIn ws))))
 
   sstatus-read : readRegister ws 0x100 mode ≡ done (bitAnd (withSd (mstatusIn ws)) sstatusReadMask)
   unfolding readThrough placeOf
@@ -59,12 +54,12 @@ module _ (ws : List ℕ) (mode : PrivMode) where
 
 -- what sstatus shows, in any mode, is what mstatus shows, in any mode, under the mask
 pub sstatus-under-mask : (ws : List ℕ) (m n : PrivMode) {x : ℕ} → readRegister ws 0x300 m ≡ done x → readRegister ws 0x100 n ≡ done (bitAnd x sstatusReadMask)
-sstatus-under-mask ws m n e = sstatus-read ws n ∙ ap (λ (y : ℕ). done (bitAnd y sstatusReadMask)) (same (sym (mstatus-read ws m) ∙ e))
+sstatus-under-mask ws m n e = sstatus-read ws n ∙ ap (λ (y : ℕ). done (bitAnd y sstatusReadMask)) (same-value (sym (mstatus-read ws m) ∙ e))
 
 -- SD is set there exactly if FS, XS or VS is 3; and S sees these three as they are
 module _ (ws : List ℕ) (mode : PrivMode) {v : ℕ} (e : readRegister ws 0x100 mode ≡ done v) where
   under-mask : v ≡ bitAnd (withSd (mstatusIn ws)) sstatusReadMask
-  under-mask = same (sym e ∙ sstatus-read ws mode)
+  under-mask = same-value (sym e ∙ sstatus-read ws mode)
 
   pub sd-in-sstatus : eqb (bits 63 63 v) 1 ≡ someDirty (mstatusIn ws)
   sd-in-sstatus = ap (λ (n : ℕ). eqb (bits 63 63 n) 1) under-mask ∙ ap (λ (n : ℕ). eqb n 1) (shows 63 63 (withSd (mstatusIn ws)) sstatusReadMask refl) ∙ sd-alone (mstatusIn ws) (someDirty (mstatusIn ws))
@@ -84,7 +79,7 @@ pub uxl-stays : (ws : List ℕ) (value : ℕ) (mode : PrivMode) {n : ℕ} → ne
 unfolding writeThrough placeOf
 uxl-stays ws value mode e =
     let old : ℕ = bitAnd (mstatusIn ws) (except sstatusMask)
-    in ap (bits 33 32) (same (sym e))
+    in ap (bits 33 32) (same-value (sym e))
     ∙ joined 33 32 old (bitAnd (value * 2 ^ 0 % 2 ^ 64) sstatusMask)
     ∙ ap (bitOr (bits 33 32 old)) (hides 33 32 (value * 2 ^ 0 % 2 ^ 64) sstatusMask refl)
     ∙ or-zero-r (bits 33 32 old)

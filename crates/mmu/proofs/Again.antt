@@ -8,7 +8,8 @@ use native.Mathlib.Omega.{arith}
 use borrow.Author.Tests.{eq-eqb}
 use lib.ListN.{length, getD, set, length-set, length-replicate}
 use lib.Seq.{getD-set-same}
-use Rattle.answers.specs.Answer.{Answer, done, given}
+use Rattle.answers.specs.Answer.{Answer, done}
+use Rattle.answers.proofs.Determined.{same-value}
 use Rattle.answers.proofs.Orders.{by-test}
 use Rattle.walk.specs.Entries.{allows}
 use Rattle.walk.specs.Walk.{Reached, found, lost, trailOf}
@@ -65,9 +66,6 @@ fill-hit n s x page frame leaf pos size f h =
     let at : getD (set (s .tlb) (page .0 % n) y) (page .0 % n) zeroSlot ≡ y = getD-set-same (s .tlb) (page .0 % n) y zeroSlot (rw size (mod-lt (page .0) pos)) in
     (rw (at, eq-eqb (page .0) (page .0) refl, eq-eqb (s .epoch) (s .epoch) refl) (fetch-serves x leaf f h), ap (λ (z : TlbEntry). z .frame) at)
 
-value : {a t : ℕ} → _≡_ {A = Answer ℕ} (done a) (done t) → a ≡ t
-value e = ap (λ (u : Answer ℕ). given (u .values) 0) e
-
 accepted-if-done : (n : ℕ) (s : Mmu) (c : Call) (t : ℕ) → withoutReads (translate n s c .answer) ≡ done t → accepts c ≡ true
 unfolding translate outcomeOn decide look lookShortcut lookSlot
 accepted-if-done n s c t ok = by-test (accepts c) (λ u. u) (λ u. absurd (let z : 4 ≡ 0 = ap (λ (w : Answer ℕ). w .number) (rw u at ok) in omega arith))
@@ -80,15 +78,15 @@ found-again n s c t pos size v ok =
     let slot = slotAt n s page .frame in
     let u = accepted-if-done n s c t ok in
     by-test (shortHit s (c .access) (c .satp) page)
-    (λ q. rw (u, v, q) (by-shortcut q (rw (← value (rw (u, v, q) at ok)) (framed (shortcutOf (c .access) s .frame) (c .address)))))
+    (λ q. rw (u, v, q) (by-shortcut q (rw (← same-value (rw (u, v, q) at ok)) (framed (shortcutOf (c .access) s .frame) (c .address)))))
     (λ q. by-test (slotHit n s (c .access) page)
-    (λ l. rw (u, v, q, l) (in-frame n _ (c .access) (c .satp) page slot (frameOf t) (rw (← value (rw (u, v, q, l) at ok)) (framed slot (c .address))) (remember-found n s (c .access .kind) (c .satp) page slot (λ f. (l, refl)))))
+    (λ l. rw (u, v, q, l) (in-frame n _ (c .access) (c .satp) page slot (frameOf t) (rw (← same-value (rw (u, v, q, l) at ok)) (framed slot (c .address))) (remember-found n s (c .access .kind) (c .satp) page slot (λ f. (l, refl)))))
     (λ l. rw (u, v, q, l) (onWalk (freshWalk c) refl (rw (u, v, q, l) at ok))))
   where
     onWalk : (w : Reached) → freshWalk c ≡ w → withoutReads (answerOf (afterWalk c w)) ≡ done t
         → Finds n (applied n s c (afterWalk c w)) (c .access) (c .satp) (pageOf (c .address)) (frameOf t)
     onWalk (found b e) h z =
-        rw (← value z)
+        rw (← same-value z)
         (remember-found n (fill n s (pageOf (c .address)) (frameOf b) e) (c .access .kind) (c .satp) (pageOf (c .address)) (frameOf b)
         (λ f. fill-hit n s (c .access) (pageOf (c .address)) (frameOf b) e pos size f (sure (c .access) (c .address) (trailOf (c .memory) (c .address) (c .satp) .stop) b e h .allowed)))
     onWalk lost h z = absurd (code-positive (faultOf (c .access .kind) (c .address)) (ap (λ (w : Answer ℕ). w .number) z))
@@ -134,7 +132,7 @@ again : (n : ℕ) (s : Mmu) (c d : Call) (t : ℕ) → 0 < n → length (s .tlb)
 again n s c d t pos size ok g u small =
     by-test (unpaged (c .satp))
     (λ v.
-    let e : t ≡ c .address = value (sym ok ∙ ap withoutReads (straight n s c (accepted-if-done n s c t ok) v)) in
+    let e : t ≡ c .address = same-value (sym ok ∙ ap withoutReads (straight n s c (accepted-if-done n s c t ok) v)) in
     let p = ap (λ (x : VirtPage). x .0) (g .page) in
     let z : d .address ≡ inFrame (frameOf t) (d .address) = rw e (omega arith) in
     straight n (translate n s c .mmu) d u (rw (g .satp) v) ∙ ap (λ (a : ℕ). At a 0) z)

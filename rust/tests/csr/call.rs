@@ -37,7 +37,9 @@ pub struct Answer {
 impl Call {
     pub fn name(self) -> &'static str {
         match self {
-            Self::Read { address, .. } if !rules::decides(address) => "read_register of sstatus",
+            Self::Read { address, .. } if rules::decides_read(address) => {
+                "read_register of sstatus"
+            }
             Self::Read { .. } => "read_register",
             Self::Write { .. } => "write_register",
             Self::Pending { .. } => "pending_interrupt",
@@ -47,7 +49,7 @@ impl Call {
     /// Who says what it answers.
     pub fn judge(self) -> &'static str {
         match self {
-            Self::Read { address, .. } if !rules::decides(address) => "rule",
+            Self::Read { address, .. } if rules::decides_read(address) => "rule",
             _ => "original",
         }
     }
