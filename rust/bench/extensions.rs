@@ -35,7 +35,7 @@ fn chain(operands: &Operands, call: impl Fn(u64, u64) -> u64) {
 }
 
 macro_rules! both {
-    ($sets:ident, $name:ident) => {{
+    ($sets:ident, $($name:ident)*) => {$({
         #[inline(never)]
         fn called(lhs: u64, rhs: u64) -> u64 {
             original::$name(lhs, rhs)
@@ -46,7 +46,7 @@ macro_rules! both {
 
         one!($sets, name, apart, $name, called);
         one!($sets, &format!("{name}, in a chain"), chain, $name, called);
-    }};
+    })*};
 }
 
 macro_rules! one {
@@ -70,17 +70,6 @@ pub fn rows() {
             })
         })
         .collect();
-    both!(sets, mul);
-    both!(sets, mulh);
-    both!(sets, mulhu);
-    both!(sets, mulhsu);
-    both!(sets, mulw);
-    both!(sets, div);
-    both!(sets, divu);
-    both!(sets, rem);
-    both!(sets, remu);
-    both!(sets, divw);
-    both!(sets, divuw);
-    both!(sets, remw);
-    both!(sets, remuw);
+    both!(sets, mul mulh mulhu mulhsu mulw);
+    both!(sets, div divu rem remu divw divuw remw remuw);
 }
