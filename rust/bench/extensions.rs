@@ -1,7 +1,8 @@
 //! Products and quotients.
 //!
-//! Each has two rows. In the first a call's operands are at hand, so that calls overlap, and the time is what the machine spends
-//! on one. In the second each call waits for the answer before it, and the time is what a call takes from end to end.
+//! Each has two rows. In the first a call's operands are at hand, so that calls overlap, and the
+//! time is what the machine spends on one. In the second each call waits for the answer before it,
+//! and the time is what a call takes from end to end.
 
 use std::hint::black_box;
 
