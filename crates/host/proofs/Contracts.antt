@@ -236,13 +236,13 @@ translation-rv-flush : Strong _ fn.translation.rv_flush.Kinds.ps fn.translation.
 translation-rv-flush = record { total = λ κs a. tt; determined = λ κs a x y e f p q. (refl, both (p ∙ sym q) refl) }
 
 translation-rv-translate-fetch : Strong _ fn.translation.rv_translate_fetch.Kinds.ps fn.translation.rv_translate_fetch.Kinds.r fn.translation.rv_translate_fetch.Reads.Pre fn.translation.rv_translate_fetch.Reads.Post
-translation-rv-translate-fetch = record { total = λ κs a. tt; determined = λ κs a x y e f p q. (p .answer .number ∙ sym (q .answer .number), both (p .words ∙ sym (q .words)) (both refl (both refl (both refl (both (p .answer .out ∙ sym (q .answer .out)) refl))))) }
+translation-rv-translate-fetch = record { total = λ κs a. tt; determined = λ κs a x y e f p q. (p .answer .number ∙ sym (q .answer .number), both (p .words ∙ sym (q .words)) (both refl (both refl (both refl (both refl (both refl (both (p .answer .out ∙ sym (q .answer .out)) refl))))))) }
 
 translation-rv-translate-load : Strong _ fn.translation.rv_translate_load.Kinds.ps fn.translation.rv_translate_load.Kinds.r fn.translation.rv_translate_load.Reads.Pre fn.translation.rv_translate_load.Reads.Post
-translation-rv-translate-load = record { total = λ κs a. tt; determined = λ κs a x y e f p q. (p .answer .number ∙ sym (q .answer .number), both (p .words ∙ sym (q .words)) (both refl (both refl (both refl (both (p .answer .out ∙ sym (q .answer .out)) refl))))) }
+translation-rv-translate-load = record { total = λ κs a. tt; determined = λ κs a x y e f p q. (p .answer .number ∙ sym (q .answer .number), both (p .words ∙ sym (q .words)) (both refl (both refl (both refl (both refl (both refl (both (p .answer .out ∙ sym (q .answer .out)) refl))))))) }
 
 translation-rv-translate-store : Strong _ fn.translation.rv_translate_store.Kinds.ps fn.translation.rv_translate_store.Kinds.r fn.translation.rv_translate_store.Reads.Pre fn.translation.rv_translate_store.Reads.Post
-translation-rv-translate-store = record { total = λ κs a. tt; determined = λ κs a x y e f p q. (p .answer .number ∙ sym (q .answer .number), both (p .words ∙ sym (q .words)) (both refl (both refl (both refl (both (p .answer .out ∙ sym (q .answer .out)) refl))))) }
+translation-rv-translate-store = record { total = λ κs a. tt; determined = λ κs a x y e f p q. (p .answer .number ∙ sym (q .answer .number), both (p .words ∙ sym (q .words)) (both refl (both refl (both refl (both refl (both refl (both (p .answer .out ∙ sym (q .answer .out)) refl))))))) }
 
 translation-rv-translate-readable : Strong _ fn.translation.rv_translate_readable.Kinds.ps fn.translation.rv_translate_readable.Kinds.r fn.translation.rv_translate_readable.Reads.Pre fn.translation.rv_translate_readable.Reads.Post
-translation-rv-translate-readable = record { total = λ κs a. tt; determined = λ κs a x y e f p q. (p .number ∙ sym (q .number), both refl (both refl (both refl (both (p .out ∙ sym (q .out)) refl)))) }
+translation-rv-translate-readable = record { total = λ κs a. tt; determined = λ κs a x y e f p q. (p .number ∙ sym (q .number), both refl (both refl (both refl (both refl (both refl (both (p .out ∙ sym (q .out)) refl)))))) }

@@ -1,6 +1,6 @@
 -- Demand 3, of the exported functions: their contracts are those of mmu_words. Assumes nothing.
-use Rattle.walk.specs.declared.Kind.the-variants.{Fetch, Load, Store}
-use Rattle.mmu_words.proofs.Promised.{Fresh, Free, fetch-fresh, load-fresh, store-fresh, fetch-free, load-free, store-free}
+use Rattle.access.specs.declared.Kind.the-variants.{Fetch, Load, Store}
+use Rattle.mmu_words.proofs.Promised.{Fresh, Guarded, Free, fetch-fresh, load-fresh, store-fresh, fetch-guarded, load-guarded, store-guarded, fetch-free, load-free, store-free}
 use Rattle.host.proofs.translation as fn
 
 -- THE DEMAND
@@ -12,6 +12,16 @@ rv-translate-load-fresh = load-fresh
 
 pub rv-translate-store-fresh : Fresh Store fn.rv_translate_store.Reads.Post
 rv-translate-store-fresh = store-fresh
+
+-- THE PRIVILEGE
+pub rv-translate-fetch-guarded : Guarded Fetch fn.rv_translate_fetch.Reads.Post
+rv-translate-fetch-guarded = fetch-guarded
+
+pub rv-translate-load-guarded : Guarded Load fn.rv_translate_load.Reads.Post
+rv-translate-load-guarded = load-guarded
+
+pub rv-translate-store-guarded : Guarded Store fn.rv_translate_store.Reads.Post
+rv-translate-store-guarded = store-guarded
 
 -- THE LAST SENTENCE
 pub rv-translate-fetch-free : Free Fetch fn.rv_translate_fetch.Reads.Post

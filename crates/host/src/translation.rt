@@ -1,8 +1,9 @@
 // The translation state, as words: crate mmu_words has the layout, and the work.
 ghost use mathlib.Core.Path.{_≡_};
+ghost use Rattle.csr.specs.Modes.{modeOf};
 ghost use Rattle.mmu.specs.Answers.{translation};
 ghost use Rattle.mmu.specs.Cache.{callOf, readable};
-ghost use Rattle.walk.specs.declared.Kind.the-variants.{Fetch, Load, Store};
+ghost use Rattle.access.specs.declared.Kind.the-variants.{Fetch, Load, Store};
 ghost use Rattle.mmu_words.specs.Words.{newWords, flushedWords, GavePair, Translates};
 
 #[no_mangle]
@@ -25,11 +26,13 @@ pub extern "C" fn rv_translate_fetch(
     memory: &[u8],
     address: u64,
     satp: u64,
+    privilege: u64,
+    mstatus: u64,
     out: &mut [u64; 2],
 ) -> u32
-    ensures { λ r. ⌜ Translates (callOf Fetch (now (memory .entry)) address satp) (now (mmu .entry)) (now (out .entry)) r (now (mmu .exit)) (now (out .exit)) ⌝ }
+    ensures { λ r. ⌜ Translates (callOf Fetch (now (memory .entry)) address satp (modeOf privilege) mstatus) (now (mmu .entry)) (now (out .entry)) r (now (mmu .exit)) (now (out .exit)) ⌝ }
 {
-    mmu_words::translate_fetch(mmu, memory, address, satp, out)
+    mmu_words::translate_fetch(mmu, memory, address, satp, privilege, mstatus, out)
 }
 
 #[no_mangle]
@@ -38,11 +41,13 @@ pub extern "C" fn rv_translate_load(
     memory: &[u8],
     address: u64,
     satp: u64,
+    privilege: u64,
+    mstatus: u64,
     out: &mut [u64; 2],
 ) -> u32
-    ensures { λ r. ⌜ Translates (callOf Load (now (memory .entry)) address satp) (now (mmu .entry)) (now (out .entry)) r (now (mmu .exit)) (now (out .exit)) ⌝ }
+    ensures { λ r. ⌜ Translates (callOf Load (now (memory .entry)) address satp (modeOf privilege) mstatus) (now (mmu .entry)) (now (out .entry)) r (now (mmu .exit)) (now (out .exit)) ⌝ }
 {
-    mmu_words::translate_load(mmu, memory, address, satp, out)
+    mmu_words::translate_load(mmu, memory, address, satp, privilege, mstatus, out)
 }
 
 #[no_mangle]
@@ -51,11 +56,13 @@ pub extern "C" fn rv_translate_store(
     memory: &[u8],
     address: u64,
     satp: u64,
+    privilege: u64,
+    mstatus: u64,
     out: &mut [u64; 2],
 ) -> u32
-    ensures { λ r. ⌜ Translates (callOf Store (now (memory .entry)) address satp) (now (mmu .entry)) (now (out .entry)) r (now (mmu .exit)) (now (out .exit)) ⌝ }
+    ensures { λ r. ⌜ Translates (callOf Store (now (memory .entry)) address satp (modeOf privilege) mstatus) (now (mmu .entry)) (now (out .entry)) r (now (mmu .exit)) (now (out .exit)) ⌝ }
 {
-    mmu_words::translate_store(mmu, memory, address, satp, out)
+    mmu_words::translate_store(mmu, memory, address, satp, privilege, mstatus, out)
 }
 
 #[no_mangle]
@@ -63,9 +70,11 @@ pub extern "C" fn rv_translate_readable(
     memory: &[u8],
     address: u64,
     satp: u64,
+    privilege: u64,
+    mstatus: u64,
     out: &mut [u64; 2],
 ) -> u32
-    ensures { λ r. ⌜ GavePair (translation (readable (now (memory .entry)) address satp)) (now (out .entry)) r (now (out .exit)) ⌝ }
+    ensures { λ r. ⌜ GavePair (translation (readable (callOf Load (now (memory .entry)) address satp (modeOf privilege) mstatus))) (now (out .entry)) r (now (out .exit)) ⌝ }
 {
-    mmu_words::translate_readable(memory, address, satp, out)
+    mmu_words::translate_readable(memory, address, satp, privilege, mstatus, out)
 }

@@ -13,12 +13,14 @@ use Rattle.decode.specs.Immediates.{immI, immB, immJ}
 use Rattle.extensions.specs.Multiply.{mulhOf, mulhuOf, mulhsuOf}
 use Rattle.extensions.specs.Divide.{divOf, remuOf}
 use Rattle.csr.specs.Interrupts.{chosen, pendingInterrupt}
-use Rattle.csr.specs.declared.PrivMode.the-variants.{U}
+use Rattle.csr.specs.declared.PrivMode.the-variants.{U, S}
 use Rattle.system_bus.specs.Bytes.{valueAt, bytesOf}
 use Rattle.system_bus.specs.Memory.{powerUpTo, usable}
-use Rattle.walk.specs.Entries.{valid, leaf, allows, aligned}
+use Rattle.access.specs.Asked.{accessOf}
+use Rattle.access.specs.Allowed.{allows}
+use Rattle.access.specs.declared.Kind.the-variants.{Load}
+use Rattle.walk.specs.Entries.{valid, leaf, aligned}
 use Rattle.walk.specs.Walk.{Memory, entry, indexAt, trail, judge}
-use Rattle.walk.specs.declared.Kind.the-variants.{Load}
 use Rattle.mmu.specs.Answers.{translation}
 use Rattle.mmu.specs.Cache.{slotCount, newMmu, callOf, unpaged, accepts, freshWalk, freshCount, serves, live, matches, quick, lookShortcut, lookSlot, look, decide, slotAt, shortcutOf, outcomeOn, translate}
 
@@ -37,9 +39,10 @@ integer f a = record { found = done f; asked = done a }
 abbrev naturals : Answer ℕ → Answer ℕ → Case
 naturals f a = record { found = record { number = f .number; values = map pos (f .values) }; asked = record { number = a .number; values = map pos (a .values) } }
 
--- a load that is the first call on a new cache, the root table at 0x1000: the address or the fault's value, then the entries read
+-- a load that is the first call on a new cache, made in S with SUM and MXR 0, the root table at 0x1000: the address or the fault's value, then the
+-- entries read
 abbrev load : Memory → ℕ → Answer ℕ
-load m a = translation (translate slotCount (newMmu slotCount) (callOf Load m a 0x8000_0000_0000_0001) .answer)
+load m a = translation (translate slotCount (newMmu slotCount) (callOf Load m a 0x8000_0000_0000_0001 S 0) .answer)
 
 abbrev answer : ℕ → ℕ → ℕ → Answer ℕ
 answer number value reads = record { number = number; values = value ∷ reads ∷ [] }
@@ -88,5 +91,5 @@ starred =
     ∷ []
 
 pub as-asked : map (λ (c : Case). c .found) starred ≡ map (λ (c : Case). c .asked) starred
-unfolding chosen leadingZeros powerUpTo usable valueAt bytesOf valid leaf allows aligned entry indexAt trail judge newMmu unpaged accepts freshWalk freshCount serves live matches quick lookShortcut lookSlot look decide slotAt shortcutOf outcomeOn translate
+unfolding chosen leadingZeros powerUpTo usable valueAt bytesOf valid leaf accessOf allows aligned entry indexAt trail judge newMmu unpaged accepts freshWalk freshCount serves live matches quick lookShortcut lookSlot look decide slotAt shortcutOf outcomeOn translate
 as-asked = refl

@@ -100,14 +100,17 @@ fn floats() {
 // The root table stands at 0x1000.
 const SATP: u64 = 0x8000_0000_0000_0001;
 
+// The list is read in S with SUM and MXR 0.
+const MSTATUS: u64 = 0;
+
 // Each on a new cache.
 fn walks() {
     let mut memory = [0; 16384];
     put(&mut memory, 0x1000, 0x4CF);
-    let unaligned = Mmu::new().translate_load(&memory, 0, SATP);
+    let unaligned = Mmu::new().translate_load(&memory, 0, SATP, PrivMode::S, MSTATUS);
     translated(b"0x4CF at 0x1000, load of 0", 13, 0, 1, unaligned);
     put(&mut memory, 0x1000, 0x401);
-    let circular = Mmu::new().translate_load(&memory, 0, SATP);
+    let circular = Mmu::new().translate_load(&memory, 0, SATP, PrivMode::S, MSTATUS);
     translated(b"0x401 at 0x1000, load of 0", 13, 0, 3, circular);
 }
 
@@ -122,16 +125,16 @@ fn stores() {
 
 // A leaf without D: the shortcut serves a store, the slot does not.
 fn store_calls(memory: &[u8]) {
-    let first = Mmu::new().translate_store(memory, 0x123, SATP);
+    let first = Mmu::new().translate_store(memory, 0x123, SATP, PrivMode::S, MSTATUS);
     translated(b"0x144F at 0x3000, store to 0x123", 0, 0x5123, 3, first);
     let cache = first.mmu;
-    let again = cache.translate_store(memory, 0x123, SATP);
+    let again = cache.translate_store(memory, 0x123, SATP, PrivMode::S, MSTATUS);
     translated(b"store to 0x123 again", 0, 0x5123, 0, again);
     let cache = again.mmu;
-    let other = cache.translate_store(memory, 0x1000, SATP);
+    let other = cache.translate_store(memory, 0x1000, SATP, PrivMode::S, MSTATUS);
     translated(b"0x184F at 0x3008, store to 0x1000", 0, 0x6000, 3, other);
     let cache = other.mmu;
-    let walked = cache.translate_store(memory, 0x123, SATP);
+    let walked = cache.translate_store(memory, 0x123, SATP, PrivMode::S, MSTATUS);
     translated(b"store to 0x123 after that", 0, 0x5123, 3, walked);
 }
 

@@ -16,7 +16,7 @@ use Rattle.mmu.proofs.Lookup.{the-type}
 -- the numbers are the variants' that tell something
 pub stays : (l x : Lookup) → OneOf (0 ∷ 1 ∷ 3 ∷ []) (tagOf the-type l) → l ≡ orElse l x
 stays (Straight a) x h = refl
-stays (Held a f) x h = refl
+stays (Held a f e) x h = refl
 stays Missed x h = absurd (miss (0 ∷ 1 ∷ 3 ∷ []) 2 tt h)
 stays Unusable x h = refl
 

@@ -8,21 +8,23 @@ use contract.Lifetimes.{Lfts}
 use denote.Triple.Clauses.{AtExit}
 use borrow.Fn.Kinds.{Out, Dens, endedOf}
 use Rattle.answers.specs.Answer.{done}
-use Rattle.walk.specs.declared.Kind.{Kind}
-use Rattle.walk.specs.declared.Kind.the-variants.{Fetch, Load, Store}
+use Rattle.access.specs.Allowed.{Closed}
+use Rattle.access.specs.declared.Kind.{Kind}
+use Rattle.access.specs.declared.Kind.the-variants.{Fetch, Load, Store}
 use Rattle.mmu.specs.Answers.{translation, withoutReads}
 use Rattle.mmu.specs.Cache.{slotCount, newMmu, Call, callOf, frameOf, inFrame, accepts, translate}
-use Rattle.mmu.specs.History.{Event, run, paged, Undisturbed, freshAnswer}
+use Rattle.mmu.specs.History.{Event, run, paged, Undisturbed, freshAnswer, faulted, LeafOf}
 use Rattle.mmu.specs.declared.Mmu.{Mmu}
 use Rattle.mmu.specs.declared.Translation.{Translation}
 use Rattle.mmu.specs.declared.Translation.the-variants.{At}
 use Rattle.mmu.specs.declared.Translated.{Translated}
 use Rattle.mmu.proofs.Determined.{translations}
 use Rattle.mmu.proofs.Demand.{demand3}
+use Rattle.mmu.proofs.Guarded.{kept-out}
 use Rattle.mmu.proofs.Again.{Again, again-free}
 use Rattle.mmu.proofs as fn
 
--- the three have one signature: a state, the memory, an address and satp
+-- the three have one signature: a state, the memory, an address, satp, the hart's mode and mstatus
 abbrev Contract : Type 1
 Contract = Out 1 fn.Mmu.translate_load.Kinds.ps fn.Mmu.translate_load.Kinds.r
 
@@ -34,7 +36,7 @@ Exits κs = AtExit (endedOf 1 fn.Mmu.translate_load.Kinds.ps fn.Mmu.translate_lo
 
 -- the call that some arguments make, and a state that a history led to
 abbrev call : Kind → (κs : Lfts 1) → Args κs → Call
-call k κs a = callOf k (a .1 .0 .now) (a .1 .1 .0) (a .1 .1 .1 .0)
+call k κs a = callOf k (a .1 .0 .now) (a .1 .1 .0) (a .1 .1 .1 .0) (a .1 .1 .1 .1 .0) (a .1 .1 .1 .1 .1 .0)
 
 abbrev after : List Event → Mmu
 after h = run slotCount (newMmu slotCount) h
@@ -44,6 +46,13 @@ abbrev pub Fresh : Kind → Contract → Type 0
 Fresh k Post = (κs : Lfts 1) (a : Args κs) (x : Translated) (e : Exits κs) → Post κs a x e
     → (h : List Event) → a .0 ≡ after h → a .1 .1 .0 < 2 ^ 64 → paged (call k κs a) ≡ true → Undisturbed h (call k κs a)
     → withoutReads (x .answer) ≡ freshAnswer (call k κs a)
+
+-- THE PRIVILEGE: and where the page is closed to the call, it is a page fault
+abbrev pub Guarded : Kind → Contract → Type 0
+Guarded k Post = (κs : Lfts 1) (a : Args κs) (x : Translated) (e : Exits κs) → Post κs a x e
+    → (h : List Event) → a .0 ≡ after h → a .1 .1 .0 < 2 ^ 64 → paged (call k κs a) ≡ true → Undisturbed h (call k κs a)
+    → (level leaf : ℕ) → LeafOf (call k κs a) level leaf → Closed (call k κs a .access) leaf
+    → withoutReads (x .answer) ≡ faulted (call k κs a)
 
 -- THE LAST SENTENCE: made again at once after a success, it succeeds in the same frame and reads no table entry
 abbrev pub Free : Kind → Contract → Type 0
@@ -62,6 +71,11 @@ fresh : (s : Mmu) (c : Call) (x : Translation) → translation x ≡ translation
     → (h : List Event) → s ≡ after h → c .address < 2 ^ 64 → paged c ≡ true → Undisturbed h c → withoutReads x ≡ freshAnswer c
 fresh s c x p h e small g u = ap withoutReads (answered s (after h) c x e p) ∙ demand3 slotCount h c small g u
 
+guarded : (s : Mmu) (c : Call) (x : Translation) → translation x ≡ translation (translate slotCount s c .answer)
+    → (h : List Event) → s ≡ after h → c .address < 2 ^ 64 → paged c ≡ true → Undisturbed h c
+    → (level leaf : ℕ) → LeafOf c level leaf → Closed (c .access) leaf → withoutReads x ≡ faulted c
+guarded s c x p h e small g u level leaf at shuts = ap withoutReads (answered s (after h) c x e p) ∙ kept-out slotCount h c level leaf small g u at shuts
+
 free : (s s′ : Mmu) (c d : Call) (x y : Translation) → translation x ≡ translation (translate slotCount s c .answer) → translation y ≡ translation (translate slotCount s′ d .answer)
     → (h : List Event) → s ≡ after h → s′ ≡ translate slotCount s c .mmu → (t : ℕ) → withoutReads x ≡ done t → Again c d → accepts d ≡ true → d .address < 2 ^ 64
     → y ≡ At (inFrame (frameOf t) (d .address)) 0
@@ -77,6 +91,15 @@ load-fresh κs a x e p = fresh (a .0) (call Load κs a) (x .answer) (p .0)
 
 pub store-fresh : Fresh Store fn.Mmu.translate_store.Reads.Post
 store-fresh κs a x e p = fresh (a .0) (call Store κs a) (x .answer) (p .0)
+
+pub fetch-guarded : Guarded Fetch fn.Mmu.translate_fetch.Reads.Post
+fetch-guarded κs a x e p = guarded (a .0) (call Fetch κs a) (x .answer) (p .0)
+
+pub load-guarded : Guarded Load fn.Mmu.translate_load.Reads.Post
+load-guarded κs a x e p = guarded (a .0) (call Load κs a) (x .answer) (p .0)
+
+pub store-guarded : Guarded Store fn.Mmu.translate_store.Reads.Post
+store-guarded κs a x e p = guarded (a .0) (call Store κs a) (x .answer) (p .0)
 
 pub fetch-free : Free Fetch fn.Mmu.translate_fetch.Reads.Post
 fetch-free κs a x e p κs′ b y f q h s n = free (a .0) (b .0) (call Fetch κs a) (call Fetch κs′ b) (x .answer) (y .answer) (p .0) (q .0) h s (n ∙ p .1)

@@ -35,13 +35,15 @@ flush-held ws s h =
     in let store : getD (flushedWords ws) storeAt 0 ≡ p = getD-set-same b storeAt p 0 (omega arith)
     in let l1 = keep (loadAt + 1) (λ z. omega arith) (λ z. omega arith) (λ z. omega arith)
     in let l2 = keep (loadAt + 2) (λ z. omega arith) (λ z. omega arith) (λ z. omega arith)
+    in let l3 = keep (loadAt + 3) (λ z. omega arith) (λ z. omega arith) (λ z. omega arith)
     in let s1 = keep (storeAt + 1) (λ z. omega arith) (λ z. omega arith) (λ z. omega arith)
     in let s2 = keep (storeAt + 2) (λ z. omega arith) (λ z. omega arith) (λ z. omega arith)
+    in let s3 = keep (storeAt + 3) (λ z. omega arith) (λ z. omega arith) (λ z. omega arith)
     in record {
       size = length-set b storeAt p ∙ lb;
       count = h .count;
       epoch = ap (λ (e : ℕ). e % 2 ^ 32) epoch ∙ epoch-fits (epochIn ws epochAt) ∙ ap nextEpoch (h .epoch);
-      load = _∙_ {b = shortcutTo noPage (phys (getD ws (loadAt + 1) 0)) (getD ws (loadAt + 2) 0)} (λ i. shortcutTo (virt (load i)) (phys (l1 i)) (l2 i)) (ap forget (h .load));
-      store = _∙_ {b = shortcutTo noPage (phys (getD ws (storeAt + 1) 0)) (getD ws (storeAt + 2) 0)} (λ i. shortcutTo (virt (store i)) (phys (s1 i)) (s2 i)) (ap forget (h .store));
+      load = _∙_ {b = shortcutTo noPage (phys (getD ws (loadAt + 1) 0)) (getD ws (loadAt + 2) 0) (getD ws (loadAt + 3) 0)} (λ i. shortcutTo (virt (load i)) (phys (l1 i)) (l2 i) (l3 i)) (ap forget (h .load));
+      store = _∙_ {b = shortcutTo noPage (phys (getD ws (storeAt + 1) 0)) (getD ws (storeAt + 2) 0) (getD ws (storeAt + 3) 0)} (λ i. shortcutTo (virt (store i)) (phys (s1 i)) (s2 i) (s3 i)) (ap forget (h .store));
       slots = λ i q. slot-same (flushedWords ws) ws (slotsAt + i * slotWordCount) (λ j x y. keep j (λ z. omega arith) (λ z. omega arith) (λ z. omega arith)) ∙ h .slots i q;
     }

@@ -11,20 +11,23 @@ use lib.ListN.{getD}
 use Rattle.answers.specs.Answer.{Answer, done, given, isGiven}
 use Rattle.answers.proofs.Determined.{number-positive}
 use Rattle.walk.specs.Walk.{Reached, found, lost}
-use Rattle.walk.specs.declared.Kind.{Kind}
-use Rattle.walk.specs.declared.Kind.the-variants.{Fetch, Load, Store}
-use Rattle.mmu.specs.Answers.{translation, withoutReads}
+use Rattle.csr.specs.Modes.{modeOf}
+use Rattle.access.specs.Allowed.{Closed}
+use Rattle.access.specs.declared.Kind.{Kind}
+use Rattle.access.specs.declared.Kind.the-variants.{Fetch, Load, Store}
+use Rattle.mmu.specs.Answers.{tvalOf, faultOf, translation, withoutReads}
 use Rattle.mmu.specs.Cache.{Call, callOf, frameOf, inFrame, accepts, freshWalk, answerOf}
-use Rattle.mmu.specs.History.{Event, called, paged, Undisturbed, reachedAnswer, freshAnswer}
+use Rattle.mmu.specs.History.{Event, called, paged, Undisturbed, reachedAnswer, freshAnswer, faulted, LeafOf}
 use Rattle.mmu.specs.declared.Translation.{Translation}
 use Rattle.mmu.specs.declared.Translation.the-variants.{At, Fault, Refused}
 use Rattle.mmu.proofs.Determined.{code-positive}
+use Rattle.mmu.proofs.Guarded.{fresh-shut}
 use Rattle.mmu.proofs.Again.{Again}
 use Rattle.mmu_words.specs.Words.{newWords, outcomeIn, givenPair, Translates, wordsStep, wordsRun}
 use Rattle.mmu_words.proofs.Demanded.{words-fresh, words-free}
 use Rattle.mmu_words.proofs as fn
 
--- the three have one signature: the words, the memory, an address, satp and two words for the answer
+-- the three have one signature: the words, the memory, an address, satp, the hart's privilege, mstatus, and two words for the answer
 abbrev pub Contract : Type 1
 Contract = Out 3 fn.translate_load.Kinds.ps fn.translate_load.Kinds.r
 
@@ -36,13 +39,13 @@ Exits κs = AtExit (endedOf 3 fn.translate_load.Kinds.ps fn.translate_load.Kinds
 
 -- the call that some arguments make; the words and the answer's two words after it
 abbrev pub call : Kind → (κs : Lfts 3) → Args κs → Call
-call k κs a = callOf k (a .1 .0 .now) (a .1 .1 .0) (a .1 .1 .1 .0)
+call k κs a = callOf k (a .1 .0 .now) (a .1 .1 .0) (a .1 .1 .1 .0) (modeOf (a .1 .1 .1 .1 .0)) (a .1 .1 .1 .1 .1 .0)
 
 abbrev pub words : (κs : Lfts 3) → Exits κs → List ℕ
 words κs e = e .0 .now
 
 abbrev pub out : (κs : Lfts 3) → Exits κs → List ℕ
-out κs e = e .1 .1 .1 .1 .0 .now
+out κs e = e .1 .1 .1 .1 .1 .1 .0 .now
 
 -- THE DEMAND: on words that a history led to, under the conditions, the number is the fresh walk's, and the first of the two words its address, or the
 -- address at fault
@@ -50,6 +53,13 @@ abbrev pub Fresh : Kind → Contract → Type 0
 Fresh k Post = (κs : Lfts 3) (a : Args κs) (r : ℕ) (e : Exits κs) → Post κs a r e
     → (h : List Event) → a .0 .now ≡ wordsRun newWords h → a .1 .1 .0 < 2 ^ 64 → paged (call k κs a) ≡ true → Undisturbed h (call k κs a)
     → (r ≡ freshAnswer (call k κs a) .number) × (getD (out κs e) 0 0 ≡ given (freshAnswer (call k κs a) .values) 0)
+
+-- THE PRIVILEGE: and where the page is closed to the call, the number is the page fault's, and the first word the address asked for
+abbrev pub Guarded : Kind → Contract → Type 0
+Guarded k Post = (κs : Lfts 3) (a : Args κs) (r : ℕ) (e : Exits κs) → Post κs a r e
+    → (h : List Event) → a .0 .now ≡ wordsRun newWords h → a .1 .1 .0 < 2 ^ 64 → paged (call k κs a) ≡ true → Undisturbed h (call k κs a)
+    → (level leaf : ℕ) → LeafOf (call k κs a) level leaf → Closed (call k κs a .access) leaf
+    → (r ≡ faulted (call k κs a) .number) × (getD (out κs e) 0 0 ≡ a .1 .1 .0)
 
 -- THE LAST SENTENCE: made again at once after a success, it succeeds in the same frame and reads no table entry
 abbrev pub Free : Kind → Contract → Type 0
@@ -75,6 +85,12 @@ fresh-given : (c : Call) (w : Reached) → isGiven (reachedAnswer c w .values) �
 fresh-given c (found t e) = refl
 fresh-given c lost = refl
 
+-- a page fault's value is the address asked for
+at-fault : (k : Kind) (a : ℕ) → tvalOf (faultOf k a) ≡ a
+at-fault Fetch a = refl
+at-fault Load a = refl
+at-fault Store a = refl
+
 succeeded : (x : Translation) (old : List ℕ) → translation x .number ≡ 0 → withoutReads x ≡ done (getD (givenPair (translation x .values) old) 0 0)
 succeeded (At a n) old h = refl
 succeeded (Fault f n) old h = absurd (code-positive f h)
@@ -94,6 +110,13 @@ module _ (c : Call) {ws old ws′ new : List ℕ} {r : ℕ} (p : Translates c ws
         p .answer .number ∙ same-number answer ∙ ap (λ (t : Answer ℕ). t .number) w,
         ap (λ (l : List ℕ). getD l 0 0) (p .answer .out) ∙ first-word answer old i ∙ ap (λ (t : Answer ℕ). given (t .values) 0) w,
       )
+
+  guarded : c .address < 2 ^ 64 → paged c ≡ true → Undisturbed h c → (level leaf : ℕ) → LeafOf c level leaf → Closed (c .access) leaf
+      → (r ≡ faulted c .number) × (getD new 0 0 ≡ c .address)
+  guarded small g u level leaf at shuts =
+      let f = fresh small g u
+      in let z : freshAnswer c ≡ faulted c = fresh-shut c level leaf at shuts
+      in (f .0 ∙ ap (λ (t : Answer ℕ). t .number) z, f .1 ∙ ap (λ (t : Answer ℕ). given (t .values) 0) z ∙ at-fault (c .access .kind) (c .address))
 
   free : (d : Call) {ws″ old′ ws‴ new′ : List ℕ} {q : ℕ} → Translates d ws″ old′ q ws‴ new′ → ws″ ≡ ws′
       → r ≡ 0 → Again c d → accepts d ≡ true → d .address < 2 ^ 64 → (q ≡ 0) × (new′ ≡ inFrame (frameOf (getD new 0 0)) (d .address) ∷ 0 ∷ [])
@@ -119,6 +142,15 @@ load-fresh κs a r e p h s = fresh (call Load κs a) p h s
 
 pub store-fresh : Fresh Store fn.translate_store.Reads.Post
 store-fresh κs a r e p h s = fresh (call Store κs a) p h s
+
+pub fetch-guarded : Guarded Fetch fn.translate_fetch.Reads.Post
+fetch-guarded κs a r e p h s = guarded (call Fetch κs a) p h s
+
+pub load-guarded : Guarded Load fn.translate_load.Reads.Post
+load-guarded κs a r e p h s = guarded (call Load κs a) p h s
+
+pub store-guarded : Guarded Store fn.translate_store.Reads.Post
+store-guarded κs a r e p h s = guarded (call Store κs a) p h s
 
 pub fetch-free : Free Fetch fn.translate_fetch.Reads.Post
 fetch-free κs a r e p κs′ b q f p′ h s = free (call Fetch κs a) p h s (call Fetch κs′ b) p′

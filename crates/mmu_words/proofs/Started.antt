@@ -27,7 +27,7 @@ at-empty (suc n) i j b c = by-order i n
 behind : (k j : ℕ) → j ≡ slotsAt + k → getD newWords j 0 ≡ getD (emptySlots slotCount) k 0
 unfolding newWords
 behind k j h =
-    let e : j ≡ suc (suc (suc (suc (suc (suc (suc k)))))) = omega arith
+    let e : j ≡ suc (suc (suc (suc (suc (suc (suc (suc (suc k)))))))) = omega arith
     in ap (λ (i : ℕ). getD newWords i 0) e
 
 pub new-held : Holds newWords (newMmu slotCount)
@@ -36,7 +36,7 @@ new-held =
     let at : (i j x : ℕ) → i < slotCount → j < slotWordCount → x ≡ slotsAt + (i * slotWordCount + j) → getD newWords x 0 ≡ getD (slotWords emptySlot) j 0 =
     λ i j x b c e. behind (i * slotWordCount + j) x e ∙ at-empty slotCount i j b c
     in record {
-      size = ap (λ (k : ℕ). suc (suc (suc (suc (suc (suc (suc k))))))) (length-slots slotCount);
+      size = ap (λ (k : ℕ). suc (suc (suc (suc (suc (suc (suc (suc (suc k))))))))) (length-slots slotCount);
       count = length-replicate slotCount emptySlot;
       epoch = refl;
       load = refl;

@@ -43,6 +43,7 @@ fn replay(list: &[u8]) {
     let mut memory = [0u8; 4096];
     let mut mmu = [0u64; translation::WORDS];
     let mut tables = [0u8; 32768];
+    let mut hart = [0u64; 2];
     let mut account = Account {
         answers: 0,
         differ: 0,
@@ -64,6 +65,7 @@ fn replay(list: &[u8]) {
             &mut memory,
             &mut mmu,
             &mut tables,
+            &mut hart,
         );
         number = std::num::wrapping_add_u64(number, 1);
         account = taken(account, line, told, number, &list[at..next]);
@@ -90,6 +92,7 @@ fn call(
     memory: &mut [u8; 4096],
     mmu: &mut [u64; translation::WORDS],
     tables: &mut [u8; 32768],
+    hart: &mut [u64; 2],
 ) -> Answer {
     let letter = line.letter;
     match letter {
@@ -97,7 +100,7 @@ fn call(
         b'g' => registers::replay(list, line, gpr),
         b'c' => control::replay(list, line, csr),
         b'b' => memory::replay(list, line, bytes, memory),
-        b'm' => translation::replay(list, line, mmu, tables),
+        b'm' => translation::replay(list, line, mmu, tables, hart),
         _ => {
             if list::is_end(list, line.rest) {
                 plain(line)

@@ -1,5 +1,6 @@
-// mmu.rs. The words are the epoch; page, result page and satp of the load shortcut, and of the store shortcut; then the slots, each tag, result
-// page, leaf entry and epoch. The tables stand in a memory; a call is made with its first bytes, as many as its first input says.
+// mmu.rs. The words are the epoch; page, result page, satp and leaf entry of the load shortcut, and of the store shortcut; then the slots, each tag,
+// result page, leaf entry and epoch. The tables stand in a memory; a call is made with its first bytes, as many as its first input says, and with the
+// privilege and mstatus that a line before it told.
 ghost use Prim.Native.Nat.{_+_, _*_, _≤_};
 ghost use Rattle.mmu.specs.Cache.{slotCount};
 use crate::list;
@@ -7,6 +8,7 @@ use crate::list::Line;
 use crate::told;
 use crate::told::Answer;
 use answers::Acceptance;
+use csr::PrivMode;
 use mmu::Mmu;
 use mmu::SLOTS;
 use mmu::Shortcut;
@@ -18,25 +20,30 @@ use walk::VirtPage;
 
 const LOAD_AT: usize = 1;
 
-const STORE_AT: usize = 4;
+const STORE_AT: usize = 5;
 
-const SLOTS_AT: usize = 7;
+const SLOTS_AT: usize = 9;
 
 const SLOT_WORDS: usize = 4;
 
 pub(crate) const WORDS: usize = SLOTS_AT + SLOTS * SLOT_WORDS;
 
-// 0: new, over a memory of zeros; 1: words are set; 2: a table entry is stored; 3: a flush; 4 to 7: translations.
+// 0: new, over a memory of zeros; 1: words are set; 2: a table entry is stored; 3: a flush; 4 to 7: translations; 8: privilege and mstatus of those
+// that follow.
 pub(crate) fn replay(
     list: &[u8],
     line: Line,
     words: &mut [u64; WORDS],
     tables: &mut [u8; 32768],
+    hart: &mut [u64; 2],
 ) -> Answer {
     if line.function == 2 {
         return store(line, list::is_end(list, line.rest), tables);
     }
-    let translated = call(line, tables, held(words));
+    if line.function == 8 {
+        return enter(line, list::is_end(list, line.rest), hart);
+    }
+    let translated = call(line, tables, hart[0], hart[1], held(words));
     let answer = translated.answer;
     if line.function == 0 {
         *words = [0u64; WORDS];
@@ -57,24 +64,49 @@ fn store(line: Line, is_read: bool, tables: &mut [u8]) -> Answer {
     }
 }
 
+fn enter(line: Line, is_read: bool, hart: &mut [u64; 2]) -> Answer {
+    if line.shape != 0x30 || !is_read {
+        return told::only(told::UNREAD);
+    }
+    *hart = [line.a, line.b];
+    told::only(told::REMARK)
+}
+
 // With as many bytes of memory as the line says.
-fn call(line: Line, tables: &[u8], mmu: Mmu) -> Translated {
+fn call(line: Line, tables: &[u8], privilege: u64, mstatus: u64, mmu: Mmu) -> Translated {
     let length = line.a as usize;
     if tables.len() < length {
         return settled(mmu);
     }
-    call_on(line.function, &tables[0..length], line.b, line.c, mmu)
+    let mode = PrivMode::from_bits(privilege);
+    call_on(
+        line.function,
+        &tables[0..length],
+        line.b,
+        line.c,
+        mode,
+        mstatus,
+        mmu,
+    )
 }
 
-fn call_on(function: u64, tables: &[u8], address: u64, satp: u64, mmu: Mmu) -> Translated {
+fn call_on(
+    function: u64,
+    tables: &[u8],
+    address: u64,
+    satp: u64,
+    mode: PrivMode,
+    mstatus: u64,
+    mmu: Mmu,
+) -> Translated {
     match function {
         0 => settled(Mmu::new()),
         3 => settled(mmu.flush()),
-        4 => mmu.translate_fetch(tables, address, satp),
-        5 => mmu.translate_load(tables, address, satp),
-        6 => mmu.translate_store(tables, address, satp),
+        4 => mmu.translate_fetch(tables, address, satp, mode, mstatus),
+        5 => mmu.translate_load(tables, address, satp, mode, mstatus),
+        6 => mmu.translate_store(tables, address, satp, mode, mstatus),
         7 => {
-            let answer = Mmu::translate_readable(tables, address, satp);
+            let answer = Mmu::translate_readable(tables, address, satp, mode, mstatus);
             Translated { answer, mmu }
         }
         _ => settled(mmu),
@@ -137,7 +169,7 @@ fn slots(words: &[u64; WORDS]) -> [TlbEntry; SLOTS] {
 }
 
 fn slot(words: &[u64; WORDS], at: usize) -> TlbEntry
-    requires { ⌜ at + 4 ≤ 7 + slotCount * 4 ⌝ }
+    requires { ⌜ at + 4 ≤ 9 + slotCount * 4 ⌝ }
 {
     let tag = VirtPage(words[at]);
     let frame = PhysPage(words[at + 1]);
@@ -150,7 +182,7 @@ fn slot(words: &[u64; WORDS], at: usize) -> TlbEntry
 }
 
 fn shortcut(words: &[u64; WORDS], at: usize) -> Shortcut
-    requires { ⌜ at + 3 ≤ 7 + slotCount * 4 ⌝ }
+    requires { ⌜ at + 4 ≤ 9 + slotCount * 4 ⌝ }
 {
     let page = VirtPage(words[at]);
     let frame = PhysPage(words[at + 1]);
@@ -158,6 +190,7 @@ fn shortcut(words: &[u64; WORDS], at: usize) -> Shortcut
         page,
         frame,
         satp: words[at + 2],
+        leaf: words[at + 3],
     }
 }
 
@@ -174,7 +207,7 @@ fn is(mmu: Mmu, words: &[u64; WORDS]) -> bool {
 
 // 0 where a slot is these words.
 fn slot_apart(slot: TlbEntry, words: &[u64; WORDS], at: usize) -> u64
-    requires { ⌜ at + 4 ≤ 7 + slotCount * 4 ⌝ }
+    requires { ⌜ at + 4 ≤ 9 + slotCount * 4 ⌝ }
 {
     let tag = slot.tag.0 ^ words[at];
     let frame = slot.frame.0 ^ words[at + 1];
@@ -184,10 +217,11 @@ fn slot_apart(slot: TlbEntry, words: &[u64; WORDS], at: usize) -> u64
 }
 
 fn shortcut_apart(shortcut: Shortcut, words: &[u64; WORDS], at: usize) -> u64
-    requires { ⌜ at + 3 ≤ 7 + slotCount * 4 ⌝ }
+    requires { ⌜ at + 4 ≤ 9 + slotCount * 4 ⌝ }
 {
     let page = shortcut.page.0 ^ words[at];
     let frame = shortcut.frame.0 ^ words[at + 1];
     let satp = shortcut.satp ^ words[at + 2];
-    page | frame | satp
+    let leaf = shortcut.leaf ^ words[at + 3];
+    page | frame | satp | leaf
 }

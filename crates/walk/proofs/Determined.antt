@@ -4,7 +4,7 @@ use mathlib.Core.List.{List, [], _∷_}
 use Prim.Native.Nat.{ℕ}
 use Rattle.answers.proofs.Determined.{told-apart, named, named-undone}
 use Rattle.walk.specs.Walked.{walked}
-use Rattle.walk.specs.declared.Kind.{Kind}
+use Rattle.access.specs.declared.Kind.{Kind}
 use Rattle.walk.specs.declared.Walked.{Walked}
 use Rattle.walk.specs.declared.Walked.the-variants.{Found, Fault, Refused}
 

@@ -19,7 +19,7 @@ unfolding lookSlot
 returns c =
     let t = c .before .before
     in let h = t .before
-    in rw (sym (h .is-held .ensures) ∙ t .if1 .taken) (ap (λ (a : ℕ). lookup (Held a (h .before .args .slot .frame))) (c .address-in .ensures))
+    in rw (sym (h .is-held .ensures) ∙ t .if1 .taken) (ap (λ (a : ℕ). lookup (Held a (h .before .args .slot .frame) (h .before .args .slot .leaf))) (c .address-in .ensures))
 
 returns-2 : tie.Need-returns-2
 unfolding lookSlot

@@ -75,7 +75,7 @@ returns-3 c =
     s .put-slot .ensures ∙ (λ i. sets (a .mmu .now) (s .before .slot-place .ensures .0 i) (slotWords (slotOf (pageOf (a .address)) f l (e .epoch-in .ensures i))))
     in record {
       answer = subst (λ (x : Outcome). GavePair (translation (answerOf x)) (a .out .now) (c .answer-in3 .result) (c .answer-in3 .last .1 .0)) t (c .answer-in3 .ensures);
-      words = c .before .before .point2 .ensures ∙ ap (λ (ws : List ℕ). pointed (a .kind) ws (a .address) (a .satp) f) slot ∙ ap (wordsAfter (a .kind) (a .address) (a .satp) (a .mmu .now)) t;
+      words = c .before .before .point2 .ensures ∙ ap (λ (ws : List ℕ). pointed (a .kind) ws (a .address) (a .satp) f l) slot ∙ ap (wordsAfter (a .kind) (a .address) (a .satp) (a .mmu .now)) t;
     }
 
 pub put-outcome-spec : {M : Type 1} → statement M

@@ -6,10 +6,10 @@ use Rattle.recorded.proofs.replay.Statement.{statement}
 use Rattle.recorded.proofs.replay.Tie as tie
 
 abbrev Inv-loop : tie.InvT-loop
-Inv-loop list gpr₀ csr₀ bytes₀ memory₀ mmu₀ tables₀ account₀ number₀ at₀ gpr csr bytes memory mmu tables account number at = at ≤ length list
+Inv-loop list gpr₀ csr₀ bytes₀ memory₀ mmu₀ tables₀ hart₀ account₀ number₀ at₀ gpr csr bytes memory mmu tables hart account number at = at ≤ length list
 
 abbrev μ-loop : tie.MeasureT-loop
-μ-loop list gpr₀ csr₀ bytes₀ memory₀ mmu₀ tables₀ account₀ number₀ at₀ gpr csr bytes memory mmu tables account number at = length list - at
+μ-loop list gpr₀ csr₀ bytes₀ memory₀ mmu₀ tables₀ hart₀ account₀ number₀ at₀ gpr csr bytes memory mmu tables hart account number at = length list - at
 
 loop-holds : tie.Need-loop-holds Inv-loop μ-loop
 loop-holds c = search needs

@@ -1,0 +1,126 @@
+// What is asked of a page, and whether its leaf entry allows it: the privilege checks, which mmu.rs leaves out.
+ghost use mathlib.Core.Path.{_≡_};
+ghost use Rattle.csr.specs.Modes.{isM};
+ghost use Rattle.access.specs.Asked.{lentMode, effectiveMode, accessOf};
+ghost use Rattle.access.specs.Allowed.{lent, opens, permits, allows};
+use csr::Csr;
+use csr::PrivMode;
+
+pub enum Kind {
+    Fetch,
+    Load,
+    Store,
+}
+
+// What is asked for: the kind, and what is in force at the call, of which the mode is the effective one.
+pub struct Access {
+    pub kind: Kind,
+    pub mode: PrivMode,
+    pub sum: bool,
+    pub mxr: bool,
+}
+
+// MPRV lends loads and stores the mode that MPP names. A fetch is always the hart's own.
+fn effective_mode(kind: Kind, mode: PrivMode, mstatus: u64) -> PrivMode
+    ensures { λ r. ⌜ r ≡ effectiveMode kind mode mstatus ⌝ }
+{
+    match kind {
+        Kind::Fetch => mode,
+        Kind::Load => lent_mode(mode, mstatus),
+        Kind::Store => lent_mode(mode, mstatus),
+    }
+}
+
+fn lent_mode(mode: PrivMode, mstatus: u64) -> PrivMode
+    ensures { λ r. ⌜ r ≡ lentMode mode mstatus ⌝ }
+{
+    if mstatus & Csr::MSTATUS_MPRV != 0 {
+        return PrivMode::from_bits(mstatus >> 11);
+    }
+    mode
+}
+
+impl Access {
+    // What a hart in this mode, with this mstatus, asks for.
+    pub fn new(kind: Kind, mode: PrivMode, mstatus: u64) -> Self
+        ensures { λ r. ⌜ r ≡ accessOf kind mode mstatus ⌝ }
+    {
+        Access {
+            kind,
+            mode: effective_mode(kind, mode, mstatus),
+            sum: mstatus & Csr::MSTATUS_SUM != 0,
+            mxr: mstatus & Csr::MSTATUS_MXR != 0,
+        }
+    }
+
+    // M asks no table.
+    pub fn is_machine(self) -> bool
+        ensures { λ r. ⌜ r ≡ isM (self .mode) ⌝ }
+    {
+        let mode = self.mode;
+        match mode {
+            PrivMode::U => false,
+            PrivMode::S => false,
+            PrivMode::M => true,
+        }
+    }
+
+    // Whether a leaf allows it, by whose page it is and by what it may be used for.
+    pub fn allows(self, leaf: u64) -> bool
+        ensures { λ r. ⌜ r ≡ allows self leaf ⌝ }
+    {
+        if self.is_open(leaf) {
+            self.is_permitted(leaf)
+        } else {
+            false
+        }
+    }
+
+    fn is_open(self, leaf: u64) -> bool
+        ensures { λ r. ⌜ r ≡ opens self leaf ⌝ }
+    {
+        let mode = self.mode;
+        match mode {
+            PrivMode::U => (leaf >> 4) % 2 == 1,
+            PrivMode::S => {
+                if (leaf >> 4) % 2 == 1 {
+                    self.is_lent()
+                } else {
+                    true
+                }
+            }
+            PrivMode::M => false,
+        }
+    }
+
+    // A user's page, to S.
+    fn is_lent(self) -> bool
+        ensures { λ r. ⌜ r ≡ lent (self .kind) (self .sum) ⌝ }
+    {
+        let kind = self.kind;
+        match kind {
+            Kind::Fetch => false,
+            Kind::Load => self.sum,
+            Kind::Store => self.sum,
+        }
+    }
+
+    fn is_permitted(self, leaf: u64) -> bool
+        ensures { λ r. ⌜ r ≡ permits (self .kind) (self .mxr) leaf ⌝ }
+    {
+        let kind = self.kind;
+        match kind {
+            Kind::Fetch => (leaf >> 3) % 2 == 1,
+            Kind::Load => {
+                if (leaf >> 1) % 2 == 1 {
+                    true
+                } else if self.mxr {
+                    (leaf >> 3) % 2 == 1
+                } else {
+                    false
+                }
+            }
+            Kind::Store => (leaf >> 2) % 2 == 1,
+        }
+    }
+}
