@@ -5,12 +5,13 @@ use std::error::Error;
 
 use leavnnjar::Refusal;
 use leavnnjar::csr::{
-    Csr, MIDELEG, MIE, MIP, MIP_MTIP, MIP_SSIP, MIP_STIP, MSTATUS, PrivMode, SSTATUS,
+    Csr, MIDELEG, MIE, MIP, MIP_MTIP, MIP_SSIP, MIP_STIP, MSTATUS, MSTATUS_MPRV, MSTATUS_SUM,
+    PrivMode, SSTATUS,
 };
 use leavnnjar::decode::Instruction;
 use leavnnjar::extensions::{amomax_w, div, mulhu};
 use leavnnjar::gpr::Gpr;
-use leavnnjar::mmu::Mmu;
+use leavnnjar::mmu::{Mmu, Translation, TranslationError};
 use leavnnjar::system_bus::FlatMemory;
 
 fn main() -> Result<(), Box<dyn Error>> {
@@ -142,11 +143,15 @@ fn translation() -> Result<(), Refusal> {
     memory.write_doubleword(0x2000, 0xC01)?;
     memory.write_doubleword(0x3000, 0x14CF)?;
 
+    // The hart is in S-mode, and its mstatus is 0.
     let satp = 0x8000_0000_0000_0001;
     let mut mmu = Mmu::new();
-    let load = |mmu: &mut Mmu, memory: &[u8]| match mmu.translate_load(0x123, satp, memory) {
+    let shown = |answer: Result<Translation, TranslationError>| match answer {
         Ok(to) => format!("{:#x}, {} entries read", to.address, to.reads),
         Err(error) => error.to_string(),
+    };
+    let load = |mmu: &mut Mmu, memory: &[u8]| {
+        shown(mmu.translate_load(0x123, satp, PrivMode::S, 0, memory))
     };
     println!(
         "  load from 0x123          {}",
@@ -182,5 +187,19 @@ fn translation() -> Result<(), Refusal> {
     let before = mmu.clone();
     println!("  memory of 12 bytes       {}", load(&mut mmu, &[0; 12]));
     println!("  state unchanged          {}", mmu == before);
+
+    // Now it is a page of user mode. Each call says for whom it is, and no flush is needed between.
+    memory.write_doubleword(0x3000, 0x14DF)?;
+    mmu.flush();
+    for (who, priv_mode, mstatus) in [
+        ("user page, in U", PrivMode::U, 0),
+        ("user page, in S", PrivMode::S, 0),
+        ("in S with SUM", PrivMode::S, MSTATUS_SUM),
+        ("in M: not paged", PrivMode::M, 0),
+        ("in M with MPRV, MPP U", PrivMode::M, MSTATUS_MPRV),
+    ] {
+        let answer = mmu.translate_load(0x123, satp, priv_mode, mstatus, memory.bytes());
+        println!("  {who:24} {}", shown(answer));
+    }
     Ok(())
 }

@@ -1,10 +1,18 @@
 // The state is private. The comparison reads and sets it whole: epoch, load shortcut, store
-// shortcut, then the slots. The pointer tables are left out. Each field is named here, so that one
-// that the original gains does not go unseen.
+// shortcut, then the slots. The original keeps no leaf entry in a shortcut: these two words are
+// always as in the words beside it. The pointer tables are left out. Each field is named here, so
+// that one that the original gains does not go unseen.
 use crate::layout::{EPOCH_AT, LOAD_AT, MMU_WORDS, SLOT_WORDS, SLOTS, SLOTS_AT, STORE_AT};
 
 // No slot is left over where the two are gone through together.
 const _: () = assert!(TLB_SIZE == SLOTS);
+
+/// The place of a shortcut's leaf entry in it.
+const LEAF: usize = 3;
+
+fn oracle_epoch(word: u64) -> u32 {
+    u32::try_from(word).expect("an epoch of 32 bits")
+}
 
 impl TlbEntry {
     fn oracle_words(&self) -> [u64; SLOT_WORDS] {
@@ -16,10 +24,19 @@ impl TlbEntry {
         } = *self;
         [virt_page_num, phys_page_num, flags, epoch.into()]
     }
+
+    fn oracle_from(words: &[u64]) -> Self {
+        Self {
+            virt_page_num: words[0],
+            phys_page_num: words[1],
+            flags: words[2],
+            epoch: oracle_epoch(words[3]),
+        }
+    }
 }
 
 impl Mmu {
-    fn oracle_front(&self) -> [u64; SLOTS_AT] {
+    fn oracle_front(&self, beside: &[u64; MMU_WORDS]) -> [u64; SLOTS_AT] {
         let Self {
             tlb: _,
             load_fast: _,
@@ -37,15 +54,17 @@ impl Mmu {
             load_vpage,
             load_ppage,
             load_satp,
+            beside[LOAD_AT + LEAF],
             store_vpage,
             store_ppage,
             store_satp,
+            beside[STORE_AT + LEAF],
         ]
     }
 
-    pub fn oracle_words(&self) -> [u64; MMU_WORDS] {
+    pub fn oracle_words(&self, beside: &[u64; MMU_WORDS]) -> [u64; MMU_WORDS] {
         let mut words = [0; MMU_WORDS];
-        words[..SLOTS_AT].copy_from_slice(&self.oracle_front());
+        words[..SLOTS_AT].copy_from_slice(&self.oracle_front(beside));
         let slots = words[SLOTS_AT..].chunks_exact_mut(SLOT_WORDS);
         for (slot, its) in self.tlb.iter().zip(slots) {
             its.copy_from_slice(&slot.oracle_words());
@@ -63,30 +82,35 @@ impl Mmu {
                 differ |= word ^ its;
             }
         }
-        differ == 0 && self.oracle_front() == words[..SLOTS_AT]
+        differ == 0 && self.oracle_front(words) == words[..SLOTS_AT]
     }
 
     /// The pointer tables are empty.
     pub fn oracle_from(words: &[u64; MMU_WORDS]) -> Self {
-        let epoch = |word: u64| u32::try_from(word).expect("an epoch of 32 bits");
         let mut mmu = Self::new();
-        mmu.epoch = epoch(words[EPOCH_AT]);
-        mmu.load_vpage = words[LOAD_AT];
-        mmu.load_ppage = words[LOAD_AT + 1];
-        mmu.load_satp = words[LOAD_AT + 2];
-        mmu.store_vpage = words[STORE_AT];
-        mmu.store_ppage = words[STORE_AT + 1];
-        mmu.store_satp = words[STORE_AT + 2];
-
+        mmu.oracle_take_front(words);
         let slots = words[SLOTS_AT..].chunks_exact(SLOT_WORDS);
         for (slot, its) in mmu.tlb.iter_mut().zip(slots) {
-            *slot = TlbEntry {
-                virt_page_num: its[0],
-                phys_page_num: its[1],
-                flags: its[2],
-                epoch: epoch(its[3]),
-            };
+            *slot = TlbEntry::oracle_from(its);
         }
         mmu
+    }
+
+    /// Takes over what a call on this page may have changed: all but the other slots.
+    pub fn oracle_take(&mut self, words: &[u64; MMU_WORDS], page: u64) {
+        self.oracle_take_front(words);
+        let slot = (page % SLOTS as u64) as usize;
+        let its = &words[SLOTS_AT + SLOT_WORDS * slot..][..SLOT_WORDS];
+        self.tlb[slot] = TlbEntry::oracle_from(its);
+    }
+
+    fn oracle_take_front(&mut self, words: &[u64; MMU_WORDS]) {
+        self.epoch = oracle_epoch(words[EPOCH_AT]);
+        self.load_vpage = words[LOAD_AT];
+        self.load_ppage = words[LOAD_AT + 1];
+        self.load_satp = words[LOAD_AT + 2];
+        self.store_vpage = words[STORE_AT];
+        self.store_ppage = words[STORE_AT + 1];
+        self.store_satp = words[STORE_AT + 2];
     }
 }

@@ -2,3 +2,4 @@
 //! the words of its request. A call here is asked of the original wherever no request speaks of it.
 
 pub mod csr;
+pub mod mmu;

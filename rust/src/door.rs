@@ -131,13 +131,16 @@ mod lent {
             count: usize,
         ) -> u32;
 
-        // Translation. `out` is the address and the read count.
+        // Translation. The privilege is the hart's, of which the low two bits count, and mstatus the
+        // CSR's word; `out` is the address and the read count.
         pub fn rv_translate_fetch(
             mmu: &mut [u64; MMU_WORDS],
             m: Memory,
             length: usize,
             address: u64,
             satp: u64,
+            privilege: u64,
+            mstatus: u64,
             out: &mut [u64; 2],
         ) -> u32;
         pub fn rv_translate_load(
@@ -146,6 +149,8 @@ mod lent {
             length: usize,
             address: u64,
             satp: u64,
+            privilege: u64,
+            mstatus: u64,
             out: &mut [u64; 2],
         ) -> u32;
         pub fn rv_translate_store(
@@ -154,6 +159,8 @@ mod lent {
             length: usize,
             address: u64,
             satp: u64,
+            privilege: u64,
+            mstatus: u64,
             out: &mut [u64; 2],
         ) -> u32;
         pub fn rv_translate_readable(
@@ -161,6 +168,8 @@ mod lent {
             length: usize,
             address: u64,
             satp: u64,
+            privilege: u64,
+            mstatus: u64,
             out: &mut [u64; 2],
         ) -> u32;
     }
@@ -202,14 +211,18 @@ takes_slices! {
     fn rv_load_at(memory: &mut [u8], offset: usize, bytes: &[u8])
         = (memory.as_mut_ptr(), memory.len(), offset, bytes.as_ptr(), bytes.len());
     fn rv_translate_fetch(
-        mmu: &mut [u64; MMU_WORDS], memory: &[u8], address: u64, satp: u64, out: &mut [u64; 2]
-    ) = (mmu, memory.as_ptr(), memory.len(), address, satp, out);
+        mmu: &mut [u64; MMU_WORDS], memory: &[u8], address: u64, satp: u64,
+        privilege: u64, mstatus: u64, out: &mut [u64; 2]
+    ) = (mmu, memory.as_ptr(), memory.len(), address, satp, privilege, mstatus, out);
     fn rv_translate_load(
-        mmu: &mut [u64; MMU_WORDS], memory: &[u8], address: u64, satp: u64, out: &mut [u64; 2]
-    ) = (mmu, memory.as_ptr(), memory.len(), address, satp, out);
+        mmu: &mut [u64; MMU_WORDS], memory: &[u8], address: u64, satp: u64,
+        privilege: u64, mstatus: u64, out: &mut [u64; 2]
+    ) = (mmu, memory.as_ptr(), memory.len(), address, satp, privilege, mstatus, out);
     fn rv_translate_store(
-        mmu: &mut [u64; MMU_WORDS], memory: &[u8], address: u64, satp: u64, out: &mut [u64; 2]
-    ) = (mmu, memory.as_ptr(), memory.len(), address, satp, out);
-    fn rv_translate_readable(memory: &[u8], address: u64, satp: u64, out: &mut [u64; 2])
-        = (memory.as_ptr(), memory.len(), address, satp, out);
+        mmu: &mut [u64; MMU_WORDS], memory: &[u8], address: u64, satp: u64,
+        privilege: u64, mstatus: u64, out: &mut [u64; 2]
+    ) = (mmu, memory.as_ptr(), memory.len(), address, satp, privilege, mstatus, out);
+    fn rv_translate_readable(
+        memory: &[u8], address: u64, satp: u64, privilege: u64, mstatus: u64, out: &mut [u64; 2]
+    ) = (memory.as_ptr(), memory.len(), address, satp, privilege, mstatus, out);
 }

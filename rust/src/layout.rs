@@ -1,6 +1,7 @@
 //! How many words each state has, and where the parts of the translation state stand in it.
 //!
 //! ```
+//! use leavnnjar::csr::PrivMode;
 //! use leavnnjar::layout::{EPOCH_AT, SLOT_WORDS, SLOTS_AT};
 //! use leavnnjar::mmu::{Mmu, TranslationError};
 //!
@@ -14,7 +15,7 @@
 //! memory[0x1000] = 0xCF;
 //! let mut mmu = Mmu::new();
 //! assert_eq!(live(&mmu), 0);
-//! mmu.translate_load(0x123, 0x8000_0000_0000_0001, &memory)?;
+//! mmu.translate_load(0x123, 0x8000_0000_0000_0001, PrivMode::S, 0, &memory)?;
 //! assert_eq!(live(&mmu), 1);
 //! mmu.flush();
 //! assert_eq!(live(&mmu), 0);
@@ -42,8 +43,8 @@ pub const STORE_AT: usize = LOAD_AT + SHORTCUT_WORDS;
 /// Where the slots begin.
 pub const SLOTS_AT: usize = STORE_AT + SHORTCUT_WORDS;
 
-/// A shortcut: page, result page, satp.
-pub const SHORTCUT_WORDS: usize = 3;
+/// A shortcut: page, result page, satp, leaf entry.
+pub const SHORTCUT_WORDS: usize = 4;
 
 /// A slot: tag, result page, leaf entry, epoch.
 pub const SLOT_WORDS: usize = 4;

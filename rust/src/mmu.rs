@@ -1,8 +1,9 @@
 //! Translation of addresses: the Sv39 walk, the slots of its cache, and a shortcut each for loads
-//! and stores.
+//! and stores; for whom a page is there is asked at every call.
 //!
 //! ```
 //! use leavnnjar::Refusal;
+//! use leavnnjar::csr::PrivMode::S;
 //! use leavnnjar::mmu::{Mmu, MmuFault, Translation, TranslationError};
 //! use leavnnjar::system_bus::FlatMemory;
 //!
@@ -14,45 +15,92 @@
 //! memory.write_doubleword(0x2000, 0xC01)?;
 //! memory.write_doubleword(0x3000, 0x14CF)?;
 //!
+//! // The hart is in S-mode, and its mstatus is 0.
 //! let mut mmu = Mmu::new();
-//! let walked = mmu.translate_load(0x123, satp, memory.bytes())?;
+//! let walked = mmu.translate_load(0x123, satp, S, 0, memory.bytes())?;
 //! assert_eq!(walked, Translation { address: 0x5123, reads: 3 });
 //!
 //! // Asked again, the tables are not read. So a change to them is not seen before a flush.
 //! memory.write_doubleword(0x3000, 0)?;
-//! let cached = mmu.translate_load(0x456, satp, memory.bytes())?;
+//! let cached = mmu.translate_load(0x456, satp, S, 0, memory.bytes())?;
 //! assert_eq!(cached, Translation { address: 0x5456, reads: 0 });
 //! mmu.flush();
-//! let gone = mmu.translate_load(0x456, satp, memory.bytes());
+//! let gone = mmu.translate_load(0x456, satp, S, 0, memory.bytes());
 //! let fault = MmuFault::LoadPageFault(0x456);
 //! assert_eq!(gone, Err(TranslationError::Fault { fault, reads: 3 }));
 //!
 //! // The length of the memory is looked at first, even where satp says that nothing is paged.
-//! let refused = mmu.translate_load(0x123, 0, &[0; 12]);
+//! let refused = mmu.translate_load(0x123, 0, S, 0, &[0; 12]);
 //! assert_eq!(refused, Err(TranslationError::Refused(Refusal::MemoryLength)));
+//! # Ok::<(), TranslationError>(())
+//! ```
+//!
+//! A page has U set, and is user mode's, or not, and is the supervisor's. A page that is kept is
+//! asked again at each call, so that a host need not flush where the hart's privilege or its mstatus
+//! changes:
+//!
+//! ```
+//! use leavnnjar::csr::PrivMode::{M, S, U};
+//! use leavnnjar::csr::{MSTATUS_MPRV, MSTATUS_MXR, MSTATUS_SUM};
+//! use leavnnjar::mmu::{Mmu, TranslationError};
+//!
+//! // Page 0 is the supervisor's, page 1 is user mode's, and of page 2 its code.
+//! let satp = 0x8000_0000_0000_0001;
+//! let mut memory = [0; 16384];
+//! let entries = [
+//!     (0x1000, 0x801),
+//!     (0x2000, 0xC01),
+//!     (0x3000, 0x14CF),
+//!     (0x3008, 0x18DF),
+//!     (0x3010, 0x1CD9),
+//! ];
+//! for (place, entry) in entries {
+//!     memory[place..place + 8].copy_from_slice(&u64::to_le_bytes(entry));
+//! }
+//! let mut mmu = Mmu::new();
+//!
+//! // User mode reads its own page, and no supervisor's.
+//! assert_eq!(mmu.translate_load(0x1000, satp, U, 0, &memory)?.address, 0x6000);
+//! assert!(mmu.translate_load(0x0, satp, U, 0, &memory).is_err());
+//!
+//! // The supervisor reads the user's page while SUM is set. It never executes it.
+//! assert!(mmu.translate_load(0x1000, satp, S, 0, &memory).is_err());
+//! assert_eq!(mmu.translate_load(0x1000, satp, S, MSTATUS_SUM, &memory)?.address, 0x6000);
+//! assert!(mmu.translate_load(0x1000, satp, S, 0, &memory).is_err());
+//! assert!(mmu.translate_fetch(0x1000, satp, S, MSTATUS_SUM, &memory).is_err());
+//!
+//! // Code is read while MXR is set.
+//! assert!(mmu.translate_load(0x2000, satp, U, 0, &memory).is_err());
+//! assert_eq!(mmu.translate_load(0x2000, satp, U, MSTATUS_MXR, &memory)?.address, 0x7000);
+//!
+//! // In M-mode nothing is paged; but with MPRV loads and stores are as in the mode of MPP, here U.
+//! assert_eq!(mmu.translate_load(0x1000, satp, M, 0, &memory)?.address, 0x1000);
+//! assert_eq!(mmu.translate_load(0x1000, satp, M, MSTATUS_MPRV, &memory)?.address, 0x6000);
+//! assert_eq!(mmu.translate_fetch(0x1000, satp, M, MSTATUS_MPRV, &memory)?.address, 0x1000);
 //! # Ok::<(), TranslationError>(())
 //! ```
 //!
 //! A leaf further up maps a superpage, and must be aligned to it:
 //!
 //! ```
+//! use leavnnjar::csr::PrivMode::S;
 //! use leavnnjar::mmu::{Mmu, MmuFault, Translation, TranslationError};
 //!
 //! let satp = 0x8000_0000_0000_0001;
 //! let mut memory = [0; 16384];
 //! memory[0x1000] = 0xCF;
 //! let mut mmu = Mmu::new();
-//! let last = mmu.translate_load(0x3FFF_FFFF, satp, &memory)?;
+//! let last = mmu.translate_load(0x3FFF_FFFF, satp, S, 0, &memory)?;
 //! assert_eq!(last, Translation { address: 0x3FFF_FFFF, reads: 1 });
 //! let fault = MmuFault::LoadPageFault(0x4000_0000);
-//! let beyond = mmu.translate_load(0x4000_0000, satp, &memory);
+//! let beyond = mmu.translate_load(0x4000_0000, satp, S, 0, &memory);
 //! assert_eq!(beyond, Err(TranslationError::Fault { fault, reads: 1 }));
 //!
 //! // Page 1 is no multiple of 2^18. And 0x401 is a pointer to its own table, three times.
 //! for (entry, reads) in [(0x4CF_u16, 1), (0x401, 3)] {
 //!     memory[0x1000..0x1002].copy_from_slice(&entry.to_le_bytes());
 //!     let fault = MmuFault::LoadPageFault(0);
-//!     let answer = Mmu::new().translate_load(0, satp, &memory);
+//!     let answer = Mmu::new().translate_load(0, satp, S, 0, &memory);
 //!     assert_eq!(answer, Err(TranslationError::Fault { fault, reads }));
 //! }
 //! # Ok::<(), TranslationError>(())
@@ -61,6 +109,7 @@
 use std::fmt;
 
 use crate::answers::{Refusal, refusal};
+use crate::csr::PrivMode;
 use crate::door;
 use crate::layout::MMU_WORDS;
 
@@ -146,7 +195,11 @@ impl std::error::Error for TranslationError {}
 /// slots.
 ///
 /// The state knows nothing of the memory that it was filled from. A host that changes the tables,
-/// satp or the length of the memory calls [`Mmu::flush`].
+/// satp or the length of the memory calls [`Mmu::flush`]. It need not where the hart's privilege or
+/// its mstatus changes: a call is told both, and a page that is kept serves it only if it may use it.
+///
+/// Loads and stores, [`Mmu::translate_readable`] too, go by the mode of MPP while MPRV is set, else
+/// by the hart's own, and a fetch always by the hart's own. In M-mode nothing is paged.
 #[derive(Clone, Debug, PartialEq, Eq)]
 pub struct Mmu {
     words: Box<[u64; Self::WORDS]>,
@@ -178,8 +231,8 @@ impl Mmu {
         }
     }
 
-    /// The whole state: the epoch; page, result page and satp of the load shortcut; the same of the
-    /// store shortcut; then the slots, each of tag, result page, leaf entry and epoch.
+    /// The whole state: the epoch; page, result page, satp and leaf entry of the load shortcut; the
+    /// same of the store shortcut; then the slots, each of tag, result page, leaf entry and epoch.
     /// [`layout`](crate::layout) has their places.
     #[inline]
     pub fn words(&self) -> &[u64; Self::WORDS] {
@@ -206,10 +259,21 @@ impl Mmu {
         &mut self,
         address: u64,
         satp: u64,
+        priv_mode: PrivMode,
+        mstatus: u64,
         memory: &[u8],
     ) -> Result<Translation, TranslationError> {
+        let privilege = priv_mode as u64;
         let mut out = [0; 2];
-        let answer = door::rv_translate_fetch(&mut self.words, memory, address, satp, &mut out);
+        let answer = door::rv_translate_fetch(
+            &mut self.words,
+            memory,
+            address,
+            satp,
+            privilege,
+            mstatus,
+            &mut out,
+        );
         translated(answer, out)
     }
 
@@ -218,10 +282,14 @@ impl Mmu {
     pub fn translate_readable(
         address: u64,
         satp: u64,
+        priv_mode: PrivMode,
+        mstatus: u64,
         memory: &[u8],
     ) -> Result<Translation, TranslationError> {
+        let privilege = priv_mode as u64;
         let mut out = [0; 2];
-        let answer = door::rv_translate_readable(memory, address, satp, &mut out);
+        let answer =
+            door::rv_translate_readable(memory, address, satp, privilege, mstatus, &mut out);
         translated(answer, out)
     }
 
@@ -231,10 +299,21 @@ impl Mmu {
         &mut self,
         address: u64,
         satp: u64,
+        priv_mode: PrivMode,
+        mstatus: u64,
         memory: &[u8],
     ) -> Result<Translation, TranslationError> {
+        let privilege = priv_mode as u64;
         let mut out = [0; 2];
-        let answer = door::rv_translate_load(&mut self.words, memory, address, satp, &mut out);
+        let answer = door::rv_translate_load(
+            &mut self.words,
+            memory,
+            address,
+            satp,
+            privilege,
+            mstatus,
+            &mut out,
+        );
         translated(answer, out)
     }
 
@@ -244,6 +323,7 @@ impl Mmu {
     /// the page of the last store is found without a walk.
     ///
     /// ```
+    /// use leavnnjar::csr::PrivMode::S;
     /// use leavnnjar::mmu::Mmu;
     ///
     /// // Pages 0 and 1 are mapped to pages 5 and 6, both without D.
@@ -255,7 +335,7 @@ impl Mmu {
     ///
     /// let mut mmu = Mmu::new();
     /// let reads = [0x123, 0x123, 0x1000, 0x123]
-    ///     .map(|address| mmu.translate_store(address, satp, &memory).unwrap().reads);
+    ///     .map(|address| mmu.translate_store(address, satp, S, 0, &memory).unwrap().reads);
     /// assert_eq!(reads, [3, 0, 3, 3]);
     /// ```
     #[inline]
@@ -263,10 +343,21 @@ impl Mmu {
         &mut self,
         address: u64,
         satp: u64,
+        priv_mode: PrivMode,
+        mstatus: u64,
         memory: &[u8],
     ) -> Result<Translation, TranslationError> {
+        let privilege = priv_mode as u64;
         let mut out = [0; 2];
-        let answer = door::rv_translate_store(&mut self.words, memory, address, satp, &mut out);
+        let answer = door::rv_translate_store(
+            &mut self.words,
+            memory,
+            address,
+            satp,
+            privilege,
+            mstatus,
+            &mut out,
+        );
         translated(answer, out)
     }
 }

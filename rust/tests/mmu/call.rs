@@ -1,85 +1,26 @@
-//! A translation, asked of the original and by each way of the library.
+//! A translation, asked by each way of the library.
 
 use std::hint::black_box;
 
+use leavnnjar::csr::PrivMode;
 use leavnnjar::mmu::{Mmu, Translation, TranslationError};
-use oracle::counted::Counted;
-use oracle::mmu::{Mmu as Original, MmuFault};
+pub use oracle::rules::mmu::{Answer, Call, Kind, Mode};
 
 use super::Words;
 use crate::door;
 
-#[derive(Clone, Copy, Debug, PartialEq)]
-pub enum Kind {
-    Fetch,
-    Load,
-    Store,
-    Readable,
-}
+// What `out` holds before a call: nothing that a call would put there.
+const UNTOUCHED: [u64; 2] = [0x0123_4567_89AB_CDEF, 0xFEDC_BA98_7654_3210];
 
-impl Kind {
-    pub fn name(self) -> &'static str {
-        match self {
-            Self::Fetch => "translate_fetch",
-            Self::Load => "translate_load",
-            Self::Store => "translate_store",
-            Self::Readable => "translate_readable",
-        }
-    }
-}
-
-#[derive(Clone, Copy, Debug)]
-pub struct Ask {
-    pub kind: Kind,
-    pub address: u64,
-    pub satp: u64,
-}
-
-/// What a translation gives back: the library's number, and what then stands in `out`.
-#[derive(Clone, Copy, Debug, PartialEq)]
-pub struct Answer {
-    pub number: u32,
-    pub out: [u64; 2],
-}
-
-impl Ask {
-    pub fn original(self, mmu: &mut Original, bus: &mut Counted) -> Answer {
-        let Self {
-            kind,
-            address,
-            satp,
-        } = self;
-        bus.reads = 0;
-        let answer = match kind {
-            Kind::Fetch => mmu.translate_fetch(address, satp, bus),
-            Kind::Load => mmu.translate_load(address, satp, bus),
-            Kind::Store => mmu.translate_store(address, satp, bus),
-            // It gives None alone; by the rule that is a load's fault.
-            Kind::Readable => Original::translate_readable(address, satp, bus)
-                .ok_or(MmuFault::LoadPageFault(address)),
-        };
-        match answer {
-            Ok(address) => Answer {
-                number: 0,
-                out: [address, bus.reads],
-            },
-            Err(fault) => Answer {
-                number: fault.mcause() as u32,
-                out: [fault.tval(), bus.reads],
-            },
-        }
-    }
-}
-
-/// A way to the library.
+/// A way to the library. Of an answer no values are there if `out` is as it was.
 pub trait Library {
     fn at(words: &Words) -> Self;
     fn words(&self) -> &Words;
     fn flush(&mut self);
-    fn translate(&mut self, ask: Ask, memory: &[u8], untouched: [u64; 2]) -> Answer;
+    fn translate(&mut self, call: Call, memory: &[u8]) -> Answer;
 }
 
-/// The door itself, where `out` is seen after a refusal.
+/// The door itself, where every privilege number passes and `out` is seen after a refusal.
 pub struct Door(Box<Words>);
 
 impl Door {
@@ -101,23 +42,37 @@ impl Library for Door {
         door::rv_flush(&mut self.0)
     }
 
-    fn translate(&mut self, ask: Ask, memory: &[u8], untouched: [u64; 2]) -> Answer {
-        let Ask {
+    fn translate(&mut self, call: Call, memory: &[u8]) -> Answer {
+        let Call {
             kind,
             address,
             satp,
-        } = ask;
+            privilege,
+            mstatus,
+        } = call;
         let words = &mut self.0;
-        let mut out = untouched;
+        let mut values = UNTOUCHED;
+        let out = &mut values;
         let number = match kind {
-            Kind::Fetch => door::rv_translate_fetch(words, memory, address, satp, &mut out),
-            Kind::Load => door::rv_translate_load(words, memory, address, satp, &mut out),
-            Kind::Store => door::rv_translate_store(words, memory, address, satp, &mut out),
-            Kind::Readable => door::rv_translate_readable(memory, address, satp, &mut out),
+            Kind::Fetch => {
+                door::rv_translate_fetch(words, memory, address, satp, privilege, mstatus, out)
+            }
+            Kind::Load => {
+                door::rv_translate_load(words, memory, address, satp, privilege, mstatus, out)
+            }
+            Kind::Store => {
+                door::rv_translate_store(words, memory, address, satp, privilege, mstatus, out)
+            }
+            Kind::Readable => {
+                door::rv_translate_readable(memory, address, satp, privilege, mstatus, out)
+            }
         };
         // The memory must stay as it is. The compiler would believe it: here it may not.
         black_box(memory);
-        Answer { number, out }
+        Answer {
+            number,
+            values: (values != UNTOUCHED).then_some(values),
+        }
     }
 }
 
@@ -135,26 +90,29 @@ impl Library for Mmu {
         Self::flush(self)
     }
 
-    fn translate(&mut self, ask: Ask, memory: &[u8], untouched: [u64; 2]) -> Answer {
-        let Ask {
+    fn translate(&mut self, call: Call, memory: &[u8]) -> Answer {
+        let Call {
             kind,
             address,
             satp,
-        } = ask;
+            privilege,
+            mstatus,
+        } = call;
+        let mode = PrivMode::from_bits(privilege);
         let answer = match kind {
-            Kind::Fetch => self.translate_fetch(address, satp, memory),
-            Kind::Load => self.translate_load(address, satp, memory),
-            Kind::Store => self.translate_store(address, satp, memory),
-            Kind::Readable => Self::translate_readable(address, satp, memory),
+            Kind::Fetch => self.translate_fetch(address, satp, mode, mstatus, memory),
+            Kind::Load => self.translate_load(address, satp, mode, mstatus, memory),
+            Kind::Store => self.translate_store(address, satp, mode, mstatus, memory),
+            Kind::Readable => Self::translate_readable(address, satp, mode, mstatus, memory),
         };
         black_box(memory);
-        let (number, out) = match answer {
-            Ok(Translation { address, reads }) => (0, [address, reads]),
-            Err(TranslationError::Refused(refusal)) => (refusal.number(), untouched),
+        let (number, values) = match answer {
+            Ok(Translation { address, reads }) => (0, Some([address, reads])),
+            Err(TranslationError::Refused(refusal)) => (refusal.number(), None),
             Err(TranslationError::Fault { fault, reads }) => {
-                (fault.mcause() as u32, [fault.tval(), reads])
+                (fault.mcause() as u32, Some([fault.tval(), reads]))
             }
         };
-        Answer { number, out }
+        Answer { number, values }
     }
 }

@@ -1,15 +1,18 @@
 //! Random guests: a memory full of table entries, and few enough pages and satps that the cache is
 //! hit, and fought over.
 
-use super::call::{Ask, Kind};
+use super::call::{Call, Kind};
+use super::callers::{Caller, Whose};
 use crate::common::Random;
 use crate::layout::SLOTS;
+use oracle::rules::mmu::call::U;
 
 /// Page numbers in satp and in an entry have 44 bits.
 const PAGE_BITS: u64 = (1 << 44) - 1;
 
 pub struct Guest {
     pub memory: Vec<u8>,
+    whose: Whose,
     /// The first is asked for most; the others are near it, far from it, and unpaged.
     satps: [u64; 4],
     /// Virtual pages.
@@ -19,25 +22,26 @@ pub struct Guest {
 /// What happens next to a guest and its translation state.
 #[derive(Clone, Copy, Debug)]
 pub enum Event {
-    Ask(Ask),
+    Ask(Call),
     /// Asked with a memory of a length that is refused.
-    Refused(Ask, usize),
+    Refused(Call, usize),
     Flush,
     /// Eight bytes of memory, at a multiple of 8, are stored to.
     Store(usize, u64),
 }
 
 impl Guest {
-    pub fn new(random: &mut Random, length: usize) -> Self {
+    pub fn new(random: &mut Random, length: usize, whose: Whose) -> Self {
         let pages = pages(random);
         let satps = satps(random);
         let mut memory = vec![0; length];
         for place in (0..length).step_by(8) {
-            let entry = entry(random, place as u64 >> 12);
+            let entry = entry(random, place as u64 >> 12, whose);
             memory[place..place + 8].copy_from_slice(&entry.to_le_bytes());
         }
         Self {
             memory,
+            whose,
             satps,
             pages,
         }
@@ -57,17 +61,25 @@ impl Guest {
         self.satps[which]
     }
 
-    pub fn ask(&self, random: &mut Random) -> Ask {
+    /// A leaf entry that a slot or a shortcut may hold.
+    pub fn leaf(&self, random: &mut Random) -> u64 {
+        entry(random, 0, self.whose)
+    }
+
+    pub fn ask(&self, random: &mut Random) -> Call {
         let kind = match random.below(16) {
             0..=5 => Kind::Load,
             6..=10 => Kind::Store,
             11..=14 => Kind::Fetch,
             _ => Kind::Readable,
         };
-        Ask {
+        let Caller { privilege, mstatus } = self.whose.caller(random, kind);
+        Call {
             kind,
             address: (self.page(random) << 12) | random.below(0x1000),
             satp: self.satp(random),
+            privilege,
+            mstatus,
         }
     }
 
@@ -90,7 +102,7 @@ impl Guest {
         let value = match random.below(4) {
             0 => old ^ (1 << random.below(10)),
             1 => old ^ (1 << random.below(64)),
-            _ => entry(random, place as u64 >> 12),
+            _ => entry(random, place as u64 >> 12, self.whose),
         };
         Event::Store(place, value)
     }
@@ -170,8 +182,8 @@ fn satps(random: &mut Random) -> [u64; 4] {
 }
 
 /// A table entry: pointers, to their own table too; leaves, aligned and not; all mixes of flags, the
-/// upper bits often set.
-fn entry(random: &mut Random, own: u64) -> u64 {
+/// upper bits often set; U as the guest has it.
+fn entry(random: &mut Random, own: u64, whose: Whose) -> u64 {
     let aligned = match random.below(8) {
         0..=3 => 18,
         4..=5 => 9,
@@ -185,6 +197,11 @@ fn entry(random: &mut Random, own: u64) -> u64 {
         13 => (random.word() << aligned, 0x9 | random.word()),
         14 => (random.word() << aligned, random.word()),
         _ => (random.word(), random.word() & !1),
+    };
+    let flags = match whose {
+        Whose::Supervisor => flags & !U,
+        Whose::User => flags | U,
+        Whose::Anyone => flags ^ (U & random.word()),
     };
     let upper = match random.below(4) {
         0 => random.word() << 54,

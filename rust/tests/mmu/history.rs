@@ -1,23 +1,32 @@
-//! The promise about the cache, on the library alone: after any calls, with stores to memory between
-//! them, a translation answers as the fresh walk does, provided that since the last flush all paged
-//! calls used this satp and the entries that this walk reads have held their values. Made again at
-//! once it reads no entry, whatever memory it is lent.
+//! The promise about the cache: after any calls, with stores to memory between them, a translation
+//! answers as the fresh walk does under its own privilege, SUM and MXR, provided that since the last
+//! flush all paged calls used this satp and the entries that this walk reads have held their values.
+//! For whom those calls were made is free. Made again at once for the same effective privilege, SUM and
+//! MXR it reads no entry, whatever memory it is lent.
+//!
+//! And what a customer asks of it: no user mode finds a page that is not its own, and without SUM no
+//! supervisor one that is user mode's.
 
 use std::collections::BTreeSet;
 
-use super::call::{Answer, Ask, Door, Kind, Library};
+use oracle::rules::mmu::call::{SUM, U};
+use oracle::rules::mmu::fresh_walk;
+
+use super::call::{Answer, Call, Door, Kind, Library, Mode};
+use super::callers::{self, Caller, Whose};
 use super::guest::{self, Event, Guest};
-use super::{SHORT, UNTOUCHED, Words, lengths, states};
+use super::{Places, SHORT, Words, lengths, states};
 use crate::common::{Random, Tally};
 
 const ROUNDS: usize = 300;
 const LONG: usize = 400;
 
 pub fn check(tally: &mut Tally, random: &mut Random, reset: &Words) {
-    let others: Vec<Guest> = lengths().map(|length| Guest::new(random, length)).collect();
+    let guest = |random: &mut Random, length| Guest::new(random, length, Whose::Anyone);
+    let others: Vec<Guest> = lengths().map(|length| guest(random, length)).collect();
     for _ in 0..ROUNDS {
         for length in lengths() {
-            let guest = Guest::new(random, length);
+            let guest = guest(random, length);
             let mut history = History::new(&guest, random, reset);
             for _ in 0..LONG {
                 history.go_on(tally, random, &others);
@@ -28,7 +37,6 @@ pub fn check(tally: &mut Tally, random: &mut Random, reset: &Words) {
 
 struct History<'a> {
     guest: &'a Guest,
-    reset: &'a Words,
     memory: Vec<u8>,
     library: Door,
     /// A second state, for the calls that are no part of the history.
@@ -41,10 +49,9 @@ struct History<'a> {
 }
 
 impl<'a> History<'a> {
-    fn new(guest: &'a Guest, random: &mut Random, reset: &'a Words) -> Self {
+    fn new(guest: &'a Guest, random: &mut Random, reset: &Words) -> Self {
         Self {
             guest,
-            reset,
             memory: guest.memory.clone(),
             library: Door::at(reset),
             beside: Door::at(reset),
@@ -57,8 +64,8 @@ impl<'a> History<'a> {
     fn go_on(&mut self, tally: &mut Tally, random: &mut Random, others: &[Guest]) {
         match self.guest.event(random, &self.memory) {
             Event::Flush => self.flush(random),
-            Event::Refused(ask, length) => {
-                self.library.translate(ask, &SHORT[..length], UNTOUCHED);
+            Event::Refused(call, length) => {
+                self.library.translate(call, &SHORT[..length]);
             }
             Event::Store(place, value) => {
                 self.store(place, value);
@@ -66,16 +73,16 @@ impl<'a> History<'a> {
                     self.flush(random);
                 }
             }
-            Event::Ask(mut ask) => {
+            Event::Ask(mut call) => {
                 if random.below(32) != 0 {
-                    ask.satp = self.satp;
+                    call.satp = self.satp;
                 }
-                let answer = self.library.translate(ask, &self.memory, UNTOUCHED);
+                let answer = self.library.translate(call, &self.memory);
                 // What is unpaged, or no load, store or fetch, is promised nothing.
-                if ask.satp >> 60 != 0 && ask.kind != Kind::Readable {
-                    self.satps.insert(ask.satp);
-                    self.as_fresh(tally, ask, answer);
-                    self.again(tally, random, ask, answer, others);
+                if call.is_paged() && call.kind != Kind::Readable {
+                    self.satps.insert(call.satp);
+                    self.as_fresh(tally, call, answer);
+                    self.again(tally, random, call, answer, others);
                 }
             }
         }
@@ -96,51 +103,81 @@ impl<'a> History<'a> {
         }
     }
 
-    fn as_fresh(&mut self, tally: &mut Tally, ask: Ask, answer: Answer) {
-        let entries = guest::path(&self.memory, ask.address, ask.satp);
+    fn as_fresh(&mut self, tally: &mut Tally, call: Call, answer: Answer) {
+        let entries = guest::path(&self.memory, call.address, call.satp);
         let held = entries.iter().all(|(at, _)| !self.changed.contains(at));
         if self.satps.len() != 1 || !held {
             return;
         }
 
-        self.beside.set(self.reset);
-        let fresh = self.beside.translate(ask, &self.memory, UNTOUCHED);
+        let (fresh, _) = fresh_walk(call, &self.memory);
         tally.calls("history: fresh walk", 1);
-        let same = (answer.number, answer.out[0]) == (fresh.number, fresh.out[0]);
-        let read = [0, fresh.out[1]].contains(&answer.out[1]);
-        if !same || !read {
-            let seen = states::seen(self.library.words(), ask.address >> 12);
-            let input = (ask, self.memory.len(), entries, seen);
+        let same = match (answer.values, fresh.values) {
+            (Some([value, reads]), Some([fresh_value, fresh_reads])) => {
+                answer.number == fresh.number
+                    && value == fresh_value
+                    && (reads == 0 || reads == fresh_reads)
+            }
+            _ => false,
+        };
+        if !same {
+            let input = self.input(call, &entries);
             tally.differ("history: fresh walk", input, answer, "fresh walk", fresh);
+        }
+
+        if answer.number == 0 {
+            tally.calls("history: whose page", 1);
+            let users = entries.last().is_some_and(|(_, leaf)| leaf & U != 0);
+            let may = match call.mode() {
+                Mode::U => users,
+                Mode::S => !users || (call.kind != Kind::Fetch && call.mstatus & SUM != 0),
+                Mode::M => false,
+            };
+            if !may {
+                let input = self.input(call, &entries);
+                tally.differ("history: whose page", input, answer, "rule", "no page of it");
+            }
         }
     }
 
-    /// Asked again: same kind, page and satp, any offset, any memory that is accepted.
+    fn input(&self, call: Call, entries: &Places) -> (Call, usize, Places, states::Seen) {
+        let seen = states::seen(self.library.words(), call.page());
+        (call, self.memory.len(), entries.clone(), seen)
+    }
+
+    /// Asked again: same kind, page, satp, effective privilege, SUM and MXR, any offset, any memory
+    /// that is accepted.
     fn again(
         &mut self,
         tally: &mut Tally,
         random: &mut Random,
-        mut ask: Ask,
+        call: Call,
         answer: Answer,
         others: &[Guest],
     ) {
-        if answer.number != 0 {
+        let (0, Some([found, _])) = (answer.number, answer.values) else {
             return;
-        }
+        };
         let offset = random.below(0x1000);
         let memory = &others[random.below(others.len() as u64) as usize].memory;
-        ask.address = (ask.address & !0xFFF) | offset;
+        let Caller { privilege, mstatus } = callers::alike(random, call);
+        let call = Call {
+            address: (call.address & !0xFFF) | offset,
+            privilege,
+            mstatus,
+            ..call
+        };
         let expected = Answer {
             number: 0,
-            out: [(answer.out[0] & !0xFFF) | offset, 0],
+            values: Some([(found & !0xFFF) | offset, 0]),
         };
 
         self.beside.set(self.library.words());
-        let again = self.beside.translate(ask, memory, UNTOUCHED);
+        let again = self.beside.translate(call, memory);
         tally.calls("history: again at once", 1);
         if again != expected {
-            let seen = states::seen(self.library.words(), ask.address >> 12);
-            let input = (ask, memory.len(), seen);
+            let seen = states::seen(self.library.words(), call.page());
+            let input = (call, memory.len(), seen);
             tally.differ("history: again at once", input, again, "rule", expected);
         }
     }

@@ -31,8 +31,8 @@ pub fn edge_epoch(random: &mut Random) -> u64 {
     }
 }
 
-/// Words that the original's state can hold, about this guest's pages: slots and shortcuts that hit,
-/// and others that miss in one part only.
+/// Words that the original's state can hold, beside the leaf entries of shortcuts, about this guest's
+/// pages: slots and shortcuts that hit, and others that miss in one part only.
 pub fn fitting(random: &mut Random, guest: &Guest) -> Words {
     let epoch = match random.below(3) {
         0 => edge_epoch(random),
@@ -47,8 +47,8 @@ pub fn fitting(random: &mut Random, guest: &Guest) -> Words {
 
     for shortcut in [LOAD_AT, STORE_AT] {
         let page = page_word(random, guest);
-        let satp = guest.satp(random);
-        words[shortcut..][..SHORTCUT_WORDS].copy_from_slice(&[page, result(random), satp]);
+        let held = [page, result(random), guest.satp(random), leaf(random, guest)];
+        words[shortcut..][..SHORTCUT_WORDS].copy_from_slice(&held);
     }
     for _ in 0..12 {
         let page = page_word(random, guest);
@@ -57,7 +57,7 @@ pub fn fitting(random: &mut Random, guest: &Guest) -> Words {
             1 => random.word() as u32 as u64,
             _ => epoch,
         };
-        let held = [page, result(random), random.word(), old];
+        let held = [page, result(random), leaf(random, guest), old];
         words[slot(page)..][..SLOT_WORDS].copy_from_slice(&held);
     }
     words
@@ -84,6 +84,14 @@ fn page_word(random: &mut Random, guest: &Guest) -> u64 {
         0 => page | (random.word() << 52),
         1 => u64::MAX,
         _ => page,
+    }
+}
+
+/// A leaf entry, or any word.
+fn leaf(random: &mut Random, guest: &Guest) -> u64 {
+    match random.below(4) {
+        0 => random.word(),
+        _ => guest.leaf(random),
     }
 }
 
