@@ -1,5 +1,6 @@
 //! Translations that the cache answers, and flushes.
 
+use leavnnjar::csr::PrivMode;
 use leavnnjar::mmu::Mmu;
 use original::mmu::{Mmu as Original, MmuFault};
 use original::system_bus::FlatMemory;
@@ -7,6 +8,9 @@ use original::system_bus::FlatMemory;
 use crate::ways::{CALLS, scattered, trace};
 
 const SATP: u64 = 0x8000_0000_0000_0001;
+
+/// As at reset: SUM, MXR and MPRV are clear.
+const MSTATUS: u64 = 0xA_0000_0000;
 
 /// Addresses in this many pages, in turn.
 fn addresses(pages: u64) -> Vec<u64> {
@@ -45,20 +49,21 @@ impl Guest {
     }
 }
 
-/// Each state has its pages in the cache before it is timed.
+/// Each state has its pages in the cache before it is timed. The library is told the privilege and
+/// mstatus, too, which the original does not take.
 macro_rules! hits {
     ($name:literal, $translate:ident, $pages:literal) => {{
-        let satp = std::hint::black_box(SATP);
+        let (satp, mode, mstatus) = std::hint::black_box((SATP, PrivMode::S, MSTATUS));
         let memory = tables();
         let mut port = Mmu::new();
         for address in [0, 0x1000, 0, 0x1000] {
-            port.$translate(address, satp, &memory).expect("mapped");
+            port.$translate(address, satp, mode, mstatus, &memory).expect("mapped");
         }
-        let hit = port.$translate(0, satp, &memory).expect("mapped");
+        let hit = port.$translate(0, satp, mode, mstatus, &memory).expect("mapped");
         assert_eq!(hit.reads, 0);
         ways!(
             $name, addresses($pages), address,
-            library: port, |mmu| mmu.$translate(address, satp, &memory).expect("mapped").address,
+            library: port, |mmu| mmu.$translate(address, satp, mode, mstatus, &memory).expect("mapped").address,
             original: Guest::new(), fn(guest: &mut Guest, address: u64 = address, satp: u64 = satp) -> Result<u64, MmuFault> {
                 guest.mmu.$translate(address, satp, &mut guest.bus)
             },

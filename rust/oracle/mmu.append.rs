@@ -14,6 +14,12 @@ fn oracle_epoch(word: u64) -> u32 {
     u32::try_from(word).expect("an epoch of 32 bits")
 }
 
+/// The number of a page's slot, and its words.
+fn oracle_slot(words: &[u64; MMU_WORDS], page: u64) -> (usize, &[u64]) {
+    let slot = (page % SLOTS as u64) as usize;
+    (slot, &words[SLOTS_AT + SLOT_WORDS * slot..][..SLOT_WORDS])
+}
+
 impl TlbEntry {
     fn oracle_words(&self) -> [u64; SLOT_WORDS] {
         let Self {
@@ -72,8 +78,8 @@ impl Mmu {
         words
     }
 
-    /// Whether these are its words. It is asked after every call, so they are not copied first, and
-    /// the slots are looked at without a branch for each.
+    /// Whether these are its words. They are not copied first, and the slots are looked at without a
+    /// branch for each.
     pub fn oracle_is(&self, words: &[u64; MMU_WORDS]) -> bool {
         let mut differ = 0;
         let slots = words[SLOTS_AT..].chunks_exact(SLOT_WORDS);
@@ -83,6 +89,13 @@ impl Mmu {
             }
         }
         differ == 0 && self.oracle_front(words) == words[..SLOTS_AT]
+    }
+
+    /// Whether these are its words where a call on this page may have changed them: all but the other
+    /// slots.
+    pub fn oracle_is_at(&self, words: &[u64; MMU_WORDS], page: u64) -> bool {
+        let (slot, its) = oracle_slot(words, page);
+        self.tlb[slot].oracle_words() == *its && self.oracle_front(words) == words[..SLOTS_AT]
     }
 
     /// The pointer tables are empty.
@@ -99,8 +112,7 @@ impl Mmu {
     /// Takes over what a call on this page may have changed: all but the other slots.
     pub fn oracle_take(&mut self, words: &[u64; MMU_WORDS], page: u64) {
         self.oracle_take_front(words);
-        let slot = (page % SLOTS as u64) as usize;
-        let its = &words[SLOTS_AT + SLOT_WORDS * slot..][..SLOT_WORDS];
+        let (slot, its) = oracle_slot(words, page);
         self.tlb[slot] = TlbEntry::oracle_from(its);
     }
 

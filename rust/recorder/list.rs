@@ -26,8 +26,11 @@ Where a call can be refused or fault, its first answer is document 01's number, 
 original's CSR file only says that it refuses: there the number is the rule's, 3 for SATP from S-mode
 with TVM set and 2 for all else. Where the original panics it has no answer, and nothing is recorded.
 
-One answer the original no longer decides. A read of sstatus, csr 100, shows SD and UXL, too: there the
-value is the rule's, what the original answers for mstatus, under the mask 80000003000de762.
+Some answers the original no longer decides. A read of sstatus, csr 100, shows SD and UXL, too: there
+the value is the rule's, what the original answers for mstatus, under the mask 80000003000de762. A
+translation heeds the privilege: where it is M's and satp pages, or where a leaf entry that it comes to
+allows by U, SUM and MXR what it does not in the original, or the other way round, answer and words are
+the rule's. So are always the leaf entries of the shortcuts, which the original does not keep.
 
 A call on a state begins with the words that the line before it left. 'new' makes a new state, and
 lists every word that is not 0. 'set' is no call: it gives words of the state the values listed.

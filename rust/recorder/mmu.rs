@@ -1,12 +1,17 @@
 //! mmu.rs: walks to leaves and faults of each kind at each level, the cache and its shortcuts, stores
-//! to table entries between calls, epochs at their end, then random guests.
+//! to table entries between calls, epochs at their end; each flag for each caller; then random guests.
+//!
+//! A call is asked of the original where it still decides, and there the second reading of the rules
+//! must give the same. Elsewhere that alone is asked.
 
-use oracle::counted::Counted;
+mod cache;
+mod callers;
+
 use oracle::layout::{EPOCH_AT, LOAD_AT, MMU_WORDS, SLOT_WORDS, SLOTS, SLOTS_AT, STORE_AT};
-use oracle::mmu::{Mmu, MmuFault};
 
 use crate::common::Random;
-use crate::list::{Change, List, changed, not_zero};
+use crate::list::List;
+use cache::Cache;
 
 const NEW: u64 = 0x0;
 const SET: u64 = 0x1;
@@ -16,6 +21,7 @@ const FETCH: u64 = 0x4;
 const LOAD: u64 = 0x5;
 const STORE: u64 = 0x6;
 const READABLE: u64 = 0x7;
+const CALLER: u64 = 0x8;
 
 const KINDS: [u64; 4] = [FETCH, LOAD, STORE, READABLE];
 
@@ -33,8 +39,9 @@ pub fn record(list: &mut List, random: &mut Random) {
         "mmu",
         'm',
         &format!(
-            "the translation state, as {MMU_WORDS} words: epoch; page, result page and satp of the load \
-             shortcut, and of the store shortcut; {SLOTS} slots of tag, result page, leaf entry, epoch"
+            "the translation state, as {MMU_WORDS} words: epoch; page, result page, satp and leaf entry of \
+             the load shortcut, and of the store shortcut; {SLOTS} slots of tag, result page, leaf entry, \
+             epoch"
         ),
     );
     list.function(
@@ -60,13 +67,29 @@ pub fn record(list: &mut List, random: &mut Random) {
         READABLE,
         "translate_readable length address satp = number value reads",
     );
+    list.function(
+        CALLER,
+        "(from here on calls are made so) privilege mstatus =",
+    );
     list.remark("A call is made with the first bytes of the memory, as many as length says. The value is the");
     list.remark("address found, or where the call faults the address asked for; where translate_readable gives");
     list.remark(
         "None the number is a load's. Reads are the table entries read, counted by the memory.",
     );
 
-    let mut cache = Cache::new(list);
+    let mut by_rule = edges(Cache::new(list));
+    by_rule += callers::record(Cache::new(list));
+    for _ in 0..GUESTS {
+        by_rule += guest(Cache::new(list), random, &[(1, 0)]);
+        by_rule += guest(Cache::new(list), random, &callers::CALLERS);
+    }
+    list.remark(&format!(
+        "Of these translations {by_rule:x} are answered by the rule, all others by the original, too."
+    ));
+}
+
+/// In S with SUM and MXR clear. As all groups do, it gives how many answers are the rule's alone.
+fn edges(mut cache: Cache) -> usize {
     walks(&mut cache);
     slots(&mut cache);
     stale(&mut cache);
@@ -74,69 +97,7 @@ pub fn record(list: &mut List, random: &mut Random) {
     epochs(&mut cache);
     held(&mut cache);
     lengths(&mut cache);
-    for _ in 0..GUESTS {
-        guest(&mut Cache::new(list), random);
-    }
-}
-
-struct Cache<'a> {
-    list: &'a mut List,
-    mmu: Box<Mmu>,
-    memory: Vec<u8>,
-}
-
-impl<'a> Cache<'a> {
-    fn new(list: &'a mut List) -> Self {
-        let mmu = Box::new(Mmu::new());
-        list.answer(NEW, &[], &[0], &not_zero(&mmu.oracle_words()));
-        let memory = vec![0; LENGTH];
-        Self { list, mmu, memory }
-    }
-
-    fn set(&mut self, changes: &[Change]) {
-        let mut words = self.mmu.oracle_words();
-        for &(place, value) in changes {
-            words[place] = value;
-        }
-        *self.mmu = Mmu::oracle_from(&words);
-        self.list.set(SET, &[], changes);
-    }
-
-    fn entry(&mut self, address: usize, entry: u64) {
-        self.memory[address..address + 8].copy_from_slice(&entry.to_le_bytes());
-        self.list.set(STORE_ENTRY, &[address as u64, entry], &[]);
-    }
-
-    fn flush(&mut self) {
-        let before = self.mmu.oracle_words();
-        self.mmu.flush();
-        let changes = changed(&before, &self.mmu.oracle_words());
-        self.list.answer(FLUSH, &[], &[0], &changes);
-    }
-
-    fn ask(&mut self, kind: u64, address: u64, satp: u64) {
-        self.ask_of(LENGTH, kind, address, satp);
-    }
-
-    fn ask_of(&mut self, length: usize, kind: u64, address: u64, satp: u64) {
-        let before = self.mmu.oracle_words();
-        let mut bus = Counted::new(&self.memory[..length]);
-        let answer = match kind {
-            FETCH => self.mmu.translate_fetch(address, satp, &mut bus),
-            LOAD => self.mmu.translate_load(address, satp, &mut bus),
-            STORE => self.mmu.translate_store(address, satp, &mut bus),
-            _ => Mmu::translate_readable(address, satp, &mut bus)
-                .ok_or(MmuFault::LoadPageFault(address)),
-        };
-        let (number, value) = match answer {
-            Ok(found) => (0, found),
-            Err(fault) => (fault.mcause(), fault.tval()),
-        };
-        let inputs = [length as u64, address, satp];
-        let changes = changed(&before, &self.mmu.oracle_words());
-        self.list
-            .answer(kind, &inputs, &[number, value, bus.reads], &changes);
-    }
+    cache.by_rule
 }
 
 /// A table entry.
@@ -145,8 +106,8 @@ fn entry(page: u64, flags: u64) -> u64 {
 }
 
 /// Flags of an entry: all, all but D, R, X, R and W, R and X; V and W alone, with which the original goes
-/// on to the next level; two with V clear; and every bit.
-const FLAGS: [u64; 10] = [0xCF, 0x4F, 0x3, 0x9, 0x7, 0xB, 0x5, 0xCE, 0x0, 0x3FF];
+/// on to the next level; two with V clear; and every bit but U.
+const FLAGS: [u64; 10] = [0xCF, 0x4F, 0x3, 0x9, 0x7, 0xB, 0x5, 0xCE, 0x0, 0x3EF];
 
 /// One entry of each kind at each level: the tables stand at pages 1, 2 and 3.
 fn walks(cache: &mut Cache) {
@@ -158,7 +119,7 @@ fn walks(cache: &mut Cache) {
         cache.entry(0x2000 + 8 * i, entry(page << 9, flags));
         cache.entry(0x3000 + 8 * i, entry(page, flags));
     }
-    // Not aligned, by the lowest bit and by the highest; a pointer to its own table; all bits set.
+    // Not aligned, by the lowest bit and by the highest; a pointer to its own table; all bits set but U.
     cache.entry(0x1000 + 8 * 0x20, entry(1, 0xCF));
     cache.entry(0x1000 + 8 * 0x21, entry(1 << 17, 0xCF));
     cache.entry(0x1000 + 8 * 0x22, entry(1, 1));
@@ -166,7 +127,7 @@ fn walks(cache: &mut Cache) {
     cache.entry(0x2000 + 8 * 0x20, entry(1, 0xCF));
     cache.entry(0x2000 + 8 * 0x21, entry(1 << 8, 0xCF));
     cache.entry(0x2000 + 8 * 0x22, entry(2, 1));
-    cache.entry(0x3000 + 8 * 0x20, u64::MAX);
+    cache.entry(0x3000 + 8 * 0x20, u64::MAX ^ 0x10);
     cache.entry(0x3000 + 8 * 0x21, entry(3, 1));
     cache.entry(0x3000 + 8 * 0x1FF, entry((1 << 44) - 1, 0xCF));
 
@@ -275,28 +236,37 @@ fn epochs(cache: &mut Cache) {
 }
 
 /// Slots and shortcuts that no walk filled: result pages of more than 52 bits lose the others, and a
-/// page that no address has is no one's.
+/// page that no address has is no one's. Where the shortcut's leaf entry denies, the slot is asked.
 fn held(cache: &mut Cache) {
-    let slot = SLOTS_AT + SLOT_WORDS * 3;
-    for (frame, leaf) in [
-        (5, 0xCF),
-        (u64::MAX, 0x7),
-        (1 << 52, 0x8F),
-        (0x123, 0x87),
-        (0x321, 0x84),
+    let at = |page: usize| SLOTS_AT + SLOT_WORDS * page;
+    for (frame, leaf, shortcut) in [
+        (5, 0xCF, 0xCF),
+        (u64::MAX, 0x7, 0x7),
+        (1 << 52, 0x8F, 0x6),
+        (0x123, 0x87, 0xDF),
+        (0x321, 0x84, 0xC9),
+        (0x456, 0xCF, 0xDF),
+        (0x654, 0xC7, 0),
     ] {
+        for slot in [at(3), at(4)] {
+            let page = ((slot - SLOTS_AT) / SLOT_WORDS) as u64;
+            cache.set(&[
+                (slot, page),
+                (slot + 1, frame ^ 2),
+                (slot + 2, leaf),
+                (slot + 3, 9),
+            ]);
+        }
         cache.set(&[
             (EPOCH_AT, 9),
-            (slot, 3),
-            (slot + 1, frame),
-            (slot + 2, leaf),
-            (slot + 3, 9),
             (LOAD_AT, 4),
             (LOAD_AT + 1, frame),
             (LOAD_AT + 2, SATP),
+            (LOAD_AT + 3, shortcut),
             (STORE_AT, 4),
             (STORE_AT + 1, frame ^ 1),
             (STORE_AT + 2, SATP),
+            (STORE_AT + 3, shortcut),
         ]);
         for kind in KINDS {
             cache.ask(kind, 0x4321, SATP);
@@ -323,9 +293,9 @@ fn lengths(cache: &mut Cache) {
     cache.ask_of(8, LOAD, 0x8000_0000, SATP & (u64::MAX >> 4));
 }
 
-/// A memory with tables of random entries, few pages and few satps; calls, stores to entries and
+/// A memory with tables of random entries, few pages, satps and callers; calls, stores to entries and
 /// flushes in any order.
-fn guest(cache: &mut Cache, random: &mut Random) {
+fn guest(mut cache: Cache, random: &mut Random, callers: &[(u64, u64)]) -> usize {
     let root = 1 + random.below(3);
     let first = random.below(1 << 27);
     let page = |random: &mut Random| match random.below(6) {
@@ -353,10 +323,13 @@ fn guest(cache: &mut Cache, random: &mut Random) {
             }
             _ => {
                 let kind = KINDS[random.below(4) as usize];
+                let (privilege, mstatus) = callers[random.below(callers.len() as u64) as usize];
+                cache.caller(privilege, mstatus);
                 cache.ask(kind, page(random) << 12 | random.below(0x1000), satp);
             }
         }
     }
+    cache.by_rule
 }
 
 /// The place of an entry that a walk for this address reads: of the last one, most often.

@@ -141,12 +141,7 @@ fn apart(ours: &Words, theirs: &Words) -> (Places, Places) {
     (of(ours), of(theirs))
 }
 
-fn run<L: Library>(
-    tally: &mut Tally,
-    random: &mut Random,
-    guest: &Guest,
-    start: &Words,
-) -> Cases {
+fn run<L: Library>(tally: &mut Tally, random: &mut Random, guest: &Guest, start: &Words) -> Cases {
     let memory = guest.memory.clone();
     let bus = Counted::new(&memory);
     let mut trial: Trial<L> = Trial::new(start, memory, bus);

@@ -1,7 +1,7 @@
 //! What comes about in the calls that are compared: by whom the page is asked for, where it is found,
 //! and why it is not. Each case is counted, so that one that no longer comes about is seen.
 
-use oracle::rules::mmu::call::{D, MPRV, MXR, R, SUM, U, W, X};
+use oracle::rules::mmu::call::{MPRV, MXR, R, SUM, U, W, X};
 use oracle::rules::mmu::walk::walk;
 use oracle::rules::mmu::{Call, Found, Kind, Mode, State};
 
@@ -9,7 +9,7 @@ use crate::common::Tally;
 use crate::layout::SLOTS;
 
 /// Each of these must come about so often.
-const LEAST: u64 = 1_000;
+const LEAST: u64 = 100;
 
 macro_rules! cases {
     ($($case:ident $what:literal)*) => {
@@ -40,7 +40,8 @@ cases! {
     by_shortcut "found by the shortcut"
     by_slot "found by the slot"
     by_walk "found by the walk"
-    faults "faults"
+    no_leaf "faults: the walk comes to no leaf"
+    leaf_denies "faults: the walk's leaf denies"
     shortcut_denies "the shortcut matches and denies"
     shortcut_denies_slot_serves "the shortcut matches and denies, the slot serves"
     slot_denies "the slot is live and denies"
@@ -174,10 +175,10 @@ impl Cases {
                 self.found(call, found);
             }
             Some(found) => {
-                self.counts.faults += 1;
+                self.counts.leaf_denies += 1;
                 self.denied(call, found);
             }
-            None => self.counts.faults += 1,
+            None => self.counts.no_leaf += 1,
         }
     }
 
@@ -214,7 +215,7 @@ impl Cases {
         }
         counts.read_without_mxr += u64::from(by_other(call.mstatus | MXR));
         let store = call.kind == Kind::Store;
-        let written = store && is_set(MXR) && has(X | D) && !has(W);
+        let written = store && is_set(MXR) && has(X) && !has(W);
         counts.written_with_mxr += u64::from(written);
     }
 }

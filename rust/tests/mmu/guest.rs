@@ -47,8 +47,12 @@ impl Guest {
         }
     }
 
+    /// The first is asked for most, so that a page is often met again by another caller.
     pub fn page(&self, random: &mut Random) -> u64 {
-        self.pages[random.below(self.pages.len() as u64) as usize]
+        match random.below(4) {
+            0 => self.pages[0],
+            _ => self.pages[random.below(self.pages.len() as u64) as usize],
+        }
     }
 
     pub fn satp(&self, random: &mut Random) -> u64 {
@@ -99,7 +103,7 @@ impl Guest {
             0 => (random.below(memory.len() as u64 / 8) as usize * 8, 0),
             _ => path[random.below(path.len() as u64) as usize],
         };
-        let value = match random.below(4) {
+        let value = match random.below(8) {
             0 => old ^ (1 << random.below(10)),
             1 => old ^ (1 << random.below(64)),
             _ => entry(random, place as u64 >> 12, self.whose),
@@ -184,16 +188,16 @@ fn satps(random: &mut Random) -> [u64; 4] {
 /// A table entry: pointers, to their own table too; leaves, aligned and not; all mixes of flags, the
 /// upper bits often set; U as the guest has it.
 fn entry(random: &mut Random, own: u64, whose: Whose) -> u64 {
-    let aligned = match random.below(8) {
-        0..=3 => 18,
-        4..=5 => 9,
+    let aligned = match random.below(16) {
+        0..=13 => 18,
+        14 => 9,
         _ => 0,
     };
     let (page, flags) = match random.below(16) {
         0 => (own, 1),
-        1..=5 => (random.word() & PAGE_BITS, 1 | (random.word() & 0x3F4)),
-        6..=8 => (random.word() << aligned, 0xCF),
-        9..=12 => (random.word() << aligned, 0x3 | random.word()),
+        1..=4 => (random.word() & PAGE_BITS, 1 | (random.word() & 0x3F4)),
+        5..=9 => (random.word() << aligned, 0xCF),
+        10..=12 => (random.word() << aligned, 0x3 | random.word()),
         13 => (random.word() << aligned, 0x9 | random.word()),
         14 => (random.word() << aligned, random.word()),
         _ => (random.word(), random.word() & !1),

@@ -135,7 +135,13 @@ impl<'a> History<'a> {
             };
             if !may {
                 let input = self.input(call, &entries);
-                tally.differ("history: whose page", input, answer, "rule", "no page of it");
+                tally.differ(
+                    "history: whose page",
+                    input,
+                    answer,
+                    "rule",
+                    "no page of it",
+                );
             }
         }
     }

@@ -43,12 +43,22 @@ fn run(tally: &mut Tally, random: &mut Random, guest: &Guest, start: &Words) {
             Event::Refused(call, length) => {
                 let answer = library.translate(call, &SHORT[..length]);
                 let expected = rule.translate(call, &SHORT[..length]);
-                ("any words: refused", Some(call), Some(answer), Some(expected))
+                (
+                    "any words: refused",
+                    Some(call),
+                    Some(answer),
+                    Some(expected),
+                )
             }
             Event::Ask(call) => {
                 let answer = library.translate(call, &memory);
                 let expected = rule.translate(call, &memory);
-                ("any words: translate", Some(call), Some(answer), Some(expected))
+                (
+                    "any words: translate",
+                    Some(call),
+                    Some(answer),
+                    Some(expected),
+                )
             }
         };
 

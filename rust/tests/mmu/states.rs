@@ -47,7 +47,12 @@ pub fn fitting(random: &mut Random, guest: &Guest) -> Words {
 
     for shortcut in [LOAD_AT, STORE_AT] {
         let page = page_word(random, guest);
-        let held = [page, result(random), guest.satp(random), leaf(random, guest)];
+        let held = [
+            page,
+            result(random),
+            guest.satp(random),
+            leaf(random, guest),
+        ];
         words[shortcut..][..SHORTCUT_WORDS].copy_from_slice(&held);
     }
     for _ in 0..12 {

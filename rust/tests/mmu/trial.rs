@@ -32,6 +32,10 @@ struct Outcome {
     words: Places,
 }
 
+/// Every so often all of the original's slots are compared, and not only the one that the call may
+/// have changed: the library's are, after each call, with the rule's.
+const ALL_SLOTS: usize = 8;
+
 pub struct Trial<L> {
     library: L,
     rule: State,
@@ -40,6 +44,8 @@ pub struct Trial<L> {
     pub memory: Vec<u8>,
     bus: Counted,
     cases: Cases,
+    /// How often the original's state was looked at.
+    looks: usize,
 }
 
 impl<L: Library> Trial<L> {
@@ -51,6 +57,7 @@ impl<L: Library> Trial<L> {
             memory,
             bus,
             cases: Cases::new(),
+            looks: 0,
         }
     }
 
@@ -70,7 +77,8 @@ impl<L: Library> Trial<L> {
         let name = name(call.kind, decided);
         tally.calls(name, 1);
         let is_rules = answer == by_rule && self.is_rules();
-        let is_originals = !decided || (Some(answer) == by_original && self.is_originals());
+        let is_originals =
+            !decided || (Some(answer) == by_original && self.is_originals(call.page()));
         if is_rules && is_originals {
             return;
         }
@@ -113,7 +121,7 @@ impl<L: Library> Trial<L> {
         self.rule.flush();
         self.original.flush();
         tally.calls("flush", 1);
-        let (is_rules, is_originals) = (self.is_rules(), self.is_originals());
+        let (is_rules, is_originals) = (self.is_rules(), self.is_originals(0));
         let mut differ = |judge, words: &Words| {
             let (ours, theirs) = apart(self.library.words(), words);
             tally.differ("flush", &before[..SLOTS_AT], ours, judge, theirs);
@@ -134,8 +142,13 @@ impl<L: Library> Trial<L> {
         self.bus.write_doubleword(place as u64, value);
     }
 
-    /// No call writes to the memory: what is there was stored there. Gives the cases that came about.
+    /// All slots are the original's too, and no call writes to the memory: what is there was stored
+    /// there. Gives the cases that came about.
     pub fn end(self, tally: &mut Tally) -> Cases {
+        if !self.original.oracle_is(self.library.words()) {
+            let (ours, theirs) = apart(self.library.words(), &self.originals_words());
+            tally.differ("slots", "in the end", ours, "original", theirs);
+        }
         if self.memory != self.bus.memory.oracle_bytes() {
             let length = self.memory.len();
             tally.differ("memory", length, "changed", "rule", "left alone");
@@ -147,8 +160,14 @@ impl<L: Library> Trial<L> {
         *self.library.words() == *self.rule.words
     }
 
-    fn is_originals(&self) -> bool {
-        self.original.oracle_is(self.library.words())
+    /// After a call on this page. The original's other slots are looked at now and then.
+    fn is_originals(&mut self, page: u64) -> bool {
+        self.looks += 1;
+        let words = self.library.words();
+        match self.looks % ALL_SLOTS {
+            0 => self.original.oracle_is(words),
+            _ => self.original.oracle_is_at(words, page),
+        }
     }
 
     fn originals_words(&self) -> Words {
