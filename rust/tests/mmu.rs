@@ -30,7 +30,7 @@ type Words = [u64; Mmu::WORDS];
 /// Entries of a memory or words of a state, each with its place.
 type Places = Vec<(usize, u64)>;
 
-const ROUNDS: usize = 1_200;
+const ROUNDS: usize = 1_400;
 const LONG: usize = 400;
 const LARGE_CALLS: usize = 2_000;
 
