@@ -1,12 +1,10 @@
 //! For whom a guest's calls are made: the hart's privilege and its mstatus.
 
-use oracle::rules::mmu::call::{MPRV, MXR, SUM};
+use oracle::rules::mmu::call::{MPP_FROM, MPRV, MXR, SUM};
 
 use super::call::{Call, Kind, Mode};
 use crate::common::Random;
 
-/// MPP in mstatus.
-const MPP_FROM: u32 = 11;
 const MPP: u64 = 3 << MPP_FROM;
 
 /// Whose a guest's pages are, and who asks for them. With pages and calls of one mode the original

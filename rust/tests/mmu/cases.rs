@@ -1,7 +1,7 @@
 //! What comes about in the calls that are compared: by whom the page is asked for, where it is found,
 //! and why it is not. Each case is counted, so that one that no longer comes about is seen.
 
-use oracle::rules::mmu::call::{MPRV, MXR, R, SUM, U, W, X};
+use oracle::rules::mmu::call::{MPP_FROM, MPRV, MXR, R, SUM, U, W, X};
 use oracle::rules::mmu::walk::walk;
 use oracle::rules::mmu::{Call, Found, Kind, Mode, State};
 
@@ -69,6 +69,9 @@ struct Under {
 
 pub struct Cases {
     counts: Counts,
+    /// The calls that the original is said not to decide, and those of them in which it does the same.
+    undecided: u64,
+    same: u64,
     /// By slot, then for the two shortcuts. It is not known of those that a state began with.
     under: [Option<Under>; SLOTS + 2],
 }
@@ -77,12 +80,16 @@ impl Cases {
     pub fn new() -> Self {
         Self {
             counts: Counts::default(),
+            undecided: 0,
+            same: 0,
             under: [None; SLOTS + 2],
         }
     }
 
     pub fn add(&mut self, more: &Self) {
         self.counts.add(&more.counts);
+        self.undecided += more.undecided;
+        self.same += more.same;
     }
 
     /// Prints each case, and finds fault with one that is too rare.
@@ -93,6 +100,15 @@ impl Cases {
             if count < LEAST {
                 tally.differ("cases", what, count, "least", LEAST);
             }
+        }
+
+        // It seldom does the same by chance. Otherwise it would decide more than it is said to.
+        let (undecided, same) = (self.undecided, self.same);
+        println!(
+            "{undecided:>12} no longer decided by the original, which does the same in {same}"
+        );
+        if same > undecided / 1_000 {
+            tally.differ("cases", "not decided, and the same", same, "of", undecided);
         }
     }
 
@@ -107,10 +123,16 @@ impl Cases {
         }
     }
 
+    /// A call that the original does not decide, and whether it did the same.
+    pub fn undecided(&mut self, same: bool) {
+        self.undecided += 1;
+        self.same += u64::from(same);
+    }
+
     fn caller(&mut self, call: Call) {
         let counts = &mut self.counts;
         let mprv = call.mstatus & MPRV != 0;
-        let mpp = (call.mstatus >> 11) % 4;
+        let mpp = (call.mstatus >> MPP_FROM) % 4;
         let apart = Mode::of(mpp) != Mode::of(call.privilege);
         let fetch = call.kind == Kind::Fetch;
         counts.machine += u64::from(call.mode() == Mode::M);

@@ -68,17 +68,18 @@ impl<L: Library> Trial<L> {
 
         let answer = self.library.translate(call, &self.memory);
         let by_rule = self.rule.translate(call, &self.memory);
-        let by_original =
-            decided.then(|| original::translate(&mut self.original, call, &mut self.bus));
+        let by_original = original::translate(&mut self.original, call, &mut self.bus);
         if !decided {
+            let same =
+                by_original == by_rule && self.original.oracle_is_at(&self.rule.words, call.page());
+            self.cases.undecided(same);
             self.original.oracle_take(&self.rule.words, call.page());
         }
 
         let name = name(call.kind, decided);
         tally.calls(name, 1);
         let is_rules = answer == by_rule && self.is_rules();
-        let is_originals =
-            !decided || (Some(answer) == by_original && self.is_originals(call.page()));
+        let is_originals = !decided || (answer == by_original && self.is_originals(call.page()));
         if is_rules && is_originals {
             return;
         }
@@ -92,10 +93,8 @@ impl<L: Library> Trial<L> {
             let (ours, theirs) = self.beside(answer, &self.rule.words, by_rule);
             tally.differ(name, input(), ours, "rule", theirs);
         }
-        if let Some(expected) = by_original
-            && !is_originals
-        {
-            let (ours, theirs) = self.beside(answer, &self.originals_words(), expected);
+        if !is_originals {
+            let (ours, theirs) = self.beside(answer, &self.originals_words(), by_original);
             tally.differ(name, input(), ours, "original", theirs);
         }
         self.again_alike();

@@ -28,8 +28,8 @@ impl Mode {
     }
 }
 
-// Bits of mstatus.
-const MPP_FROM: u32 = 11;
+// Bits of mstatus. MPP has two, from this on.
+pub const MPP_FROM: u32 = 11;
 pub const MPRV: u64 = 1 << 17;
 pub const SUM: u64 = 1 << 18;
 pub const MXR: u64 = 1 << 19;
