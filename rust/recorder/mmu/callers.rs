@@ -1,18 +1,16 @@
 //! For whom a page is there: each of U, X, W and R for each caller, and a cache that is met by other
 //! callers than it was filled by.
 
+use oracle::rules::mmu::call::{MPP_FROM, MPRV, MXR, SUM};
+
 use super::cache::Cache;
 use super::{FETCH, KINDS, LOAD, SATP, STORE, entry};
 
-const MPRV: u64 = 1 << 17;
-const SUM: u64 = 1 << 18;
-const MXR: u64 = 1 << 19;
-
 const fn mpp(mode: u64) -> u64 {
-    mode << 11
+    mode << MPP_FROM
 }
 
-/// Privilege and mstatus: U and S with each of SUM and MXR, M, and through MPRV each of them again.
+/// Privilege and mstatus: U, S and M with SUM and MXR; then privilege 2, and each mode through MPRV.
 pub const CALLERS: [(u64, u64); 14] = [
     (0, 0),
     (0, SUM),
@@ -49,7 +47,7 @@ pub fn record(mut cache: Cache) -> usize {
     cache.by_rule
 }
 
-/// Each page for each kind and caller, by a walk.
+/// Each page for each kind, in each mode and with SUM and MXR, by a walk.
 fn walks(cache: &mut Cache) {
     for (privilege, mstatus) in CALLERS.into_iter().take(8) {
         cache.caller(privilege, mstatus);

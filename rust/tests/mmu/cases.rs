@@ -216,26 +216,20 @@ impl Cases {
         let counts = &mut self.counts;
         let has = |bit: u64| found.leaf & bit != 0;
         let is_set = |bit: u64| call.mstatus & bit != 0;
-        let by_other = |mstatus: u64| {
-            let other = Call { mstatus, ..call };
-            other.is_allowed_by(found.leaf)
+        let with = |bit: u64| {
+            let mstatus = call.mstatus | bit;
+            Call { mstatus, ..call }.is_allowed_by(found.leaf)
         };
         match call.mode() {
             Mode::S => {
-                counts.user_page_without_sum += u64::from(by_other(call.mstatus | SUM));
+                counts.user_page_without_sum += u64::from(with(SUM));
                 let fetched = call.kind == Kind::Fetch && is_set(SUM) && has(U) && has(X);
                 counts.user_page_fetched += u64::from(fetched);
             }
-            Mode::U => {
-                let found = Found {
-                    leaf: found.leaf | U,
-                    ..found
-                };
-                counts.supervisor_page += u64::from(call.is_allowed_by(found.leaf));
-            }
+            Mode::U => counts.supervisor_page += u64::from(call.is_allowed_by(found.leaf | U)),
             Mode::M => (),
         }
-        counts.read_without_mxr += u64::from(by_other(call.mstatus | MXR));
+        counts.read_without_mxr += u64::from(with(MXR));
         let store = call.kind == Kind::Store;
         let written = store && is_set(MXR) && has(X) && !has(W);
         counts.written_with_mxr += u64::from(written);
