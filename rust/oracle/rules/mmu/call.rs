@@ -72,7 +72,7 @@ impl Call {
         self.address >> 12
     }
 
-    /// Whether a leaf entry allows the access, by the bits in force now.
+    /// Whether a leaf entry allows the access, by the bits in force now. M comes to none.
     pub fn is_allowed_by(self, leaf: u64) -> bool {
         let has = |bit: u64| leaf & bit != 0;
         let is_set = |bit: u64| self.mstatus & bit != 0;
@@ -80,7 +80,7 @@ impl Call {
         let for_mode = match self.mode() {
             Mode::U => has(U),
             Mode::S => !has(U) || (is_set(SUM) && self.kind != Kind::Fetch),
-            Mode::M => true,
+            Mode::M => false,
         };
         let for_kind = match self.kind {
             Kind::Fetch => has(X),
