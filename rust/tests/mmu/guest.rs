@@ -1,11 +1,12 @@
 //! Random guests: a memory full of table entries, and few enough pages and satps that the cache is
 //! hit, and fought over.
 
+use oracle::rules::mmu::call::U;
+
 use super::call::{Call, Kind};
 use super::callers::{Caller, Whose};
 use crate::common::Random;
 use crate::layout::SLOTS;
-use oracle::rules::mmu::call::U;
 
 /// Page numbers in satp and in an entry have 44 bits.
 const PAGE_BITS: u64 = (1 << 44) - 1;

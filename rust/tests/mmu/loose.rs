@@ -30,45 +30,32 @@ fn run(tally: &mut Tally, random: &mut Random, guest: &Guest, start: &Words) {
 
     for _ in 0..LONG {
         let before = *rule.words;
-        let (name, call, answer, expected) = match guest.event(random, &memory) {
+        let (name, asked) = match guest.event(random, &memory) {
             Event::Store(place, value) => {
                 memory[place..place + 8].copy_from_slice(&value.to_le_bytes());
                 continue;
             }
-            Event::Flush => {
-                library.flush();
-                rule.flush();
-                ("any words: flush", None, None, None)
-            }
-            Event::Refused(call, length) => {
-                let answer = library.translate(call, &SHORT[..length]);
-                let expected = rule.translate(call, &SHORT[..length]);
-                (
-                    "any words: refused",
-                    Some(call),
-                    Some(answer),
-                    Some(expected),
-                )
-            }
-            Event::Ask(call) => {
-                let answer = library.translate(call, &memory);
-                let expected = rule.translate(call, &memory);
-                (
-                    "any words: translate",
-                    Some(call),
-                    Some(answer),
-                    Some(expected),
-                )
-            }
+            Event::Flush => ("any words: flush", None),
+            Event::Refused(call, length) => ("any words: refused", Some((call, &SHORT[..length]))),
+            Event::Ask(call) => ("any words: translate", Some((call, &memory[..]))),
         };
+        let ours = asked.map(|(call, lent)| library.translate(call, lent));
+        let theirs = asked.map(|(call, lent)| rule.translate(call, lent));
+        if asked.is_none() {
+            library.flush();
+            rule.flush();
+        }
 
         tally.calls(name, 1);
-        if answer != expected || *library.words() != *rule.words {
-            let page = call.map_or(0, |call| call.page());
-            let entries = call.map(|call| guest::path(&memory, call.address, call.satp));
-            let input = (call, memory.len(), entries, states::seen(&before, page));
-            let (ours, theirs) = apart(library.words(), &rule.words);
-            tally.differ(name, input, (answer, ours), "rule", (expected, theirs));
+        if ours != theirs || *library.words() != *rule.words {
+            let page = asked.map_or(0, |(call, _)| call.page());
+            let input = asked.map(|(call, lent)| {
+                let entries = guest::path(&memory, call.address, call.satp);
+                (call, lent.len(), entries)
+            });
+            let (words, rules) = apart(library.words(), &rule.words);
+            let seen = states::seen(&before, page);
+            tally.differ(name, (input, seen), (ours, words), "rule", (theirs, rules));
             library.set(&rule.words);
         }
     }
