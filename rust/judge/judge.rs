@@ -1,12 +1,13 @@
-//! Compares the library's M and A arithmetic with that of an outside RISC-V processor, and what its
-//! CSR file shows S-mode of mstatus.
+//! Compares the library's M and A arithmetic with that of an outside RISC-V processor, what its CSR
+//! file shows S-mode of mstatus, and where its translations lead.
 //!
 //! `judge operands FILE` writes the operand pairs for judge.c to execute; `judge compare OPERANDS
 //! ANSWERS` holds its answers to the library's; `judge sstatus ANSWERS` does so with those of
-//! sstatus.c. `run` does all three.
+//! sstatus.c, and `judge pages MEMORY` with what pages.c left in its memory. `run` does all four.
 
 #[path = "../tests/common.rs"]
 mod common;
+mod pages;
 mod sstatus;
 
 use std::fmt::Debug;
@@ -68,7 +69,10 @@ fn main() -> ExitCode {
         ["operands", file] => write_operands(file),
         ["compare", operands, answers] => compare(&read(operands), &read(answers)),
         ["sstatus", answers] => sstatus::compare(&read(answers)),
-        _ => panic!("judge operands FILE | judge compare OPERANDS ANSWERS | judge sstatus ANSWERS"),
+        ["pages", memory] => pages::compare(fs::read(memory).expect("the file is there")),
+        _ => panic!(
+            "judge operands FILE | compare OPERANDS ANSWERS | sstatus ANSWERS | pages MEMORY"
+        ),
     }
 }
 
