@@ -12,3 +12,6 @@ Access-is-machine = equation (λ κs a e f. refl)
 
 Access-allows : Strong _ fn.Access.allows.Kinds.ps fn.Access.allows.Kinds.r fn.Access.allows.Reads.Pre fn.Access.allows.Reads.Post
 Access-allows = equation (λ κs a e f. refl)
+
+is-plain : Strong _ fn.is_plain.Kinds.ps fn.is_plain.Kinds.r fn.is_plain.Reads.Pre fn.is_plain.Reads.Post
+is-plain = equation (λ κs a e f. refl)

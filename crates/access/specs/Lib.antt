@@ -2,3 +2,4 @@
 pub mod Flags
 pub mod Asked
 pub mod Allowed
+pub mod Plain

@@ -1,8 +1,9 @@
 // What is asked of a page, and whether its leaf entry allows it: the privilege checks, which mmu.rs leaves out.
 ghost use mathlib.Core.Path.{_≡_};
-ghost use Rattle.csr.specs.Modes.{isM};
+ghost use Rattle.csr.specs.Modes.{modeOf, isM};
 ghost use Rattle.access.specs.Asked.{lentMode, effectiveMode, accessOf};
 ghost use Rattle.access.specs.Allowed.{lent, opens, permits, allows};
+ghost use Rattle.access.specs.Plain.{plain};
 use csr::Csr;
 use csr::PrivMode;
 
@@ -122,5 +123,20 @@ impl Access {
             }
             Kind::Store => (leaf >> 2) % 2 == 1,
         }
+    }
+}
+
+// Whether a leaf allows it whatever SUM and MXR are, to a hart whose own mode counts: the common case, as one comparison. The page's U and the
+// mode's number make 1 where the page is the mode's own, U's number being 0 and S's 1; the kind's flag is set; MPRV is clear.
+pub fn is_plain(kind: Kind, privilege: u64, mstatus: u64, leaf: u64) -> bool
+    ensures { λ r. ⌜ r ≡ plain kind (modeOf privilege) mstatus leaf ⌝ }
+{
+    let user = (leaf >> 4) % 2 * 16;
+    let hart = privilege % 4 * 16;
+    let lent = (mstatus >> 17) % 2 * 0x2_0000;
+    match kind {
+        Kind::Fetch => user + (leaf >> 3) % 2 * 8 + hart == 24,
+        Kind::Load => user + (leaf >> 1) % 2 * 2 + (hart + lent) == 18,
+        Kind::Store => user + (leaf >> 2) % 2 * 4 + (hart + lent) == 20,
     }
 }

@@ -10,7 +10,7 @@ use lib.ListN.{length, getD, set, length-set, length-replicate}
 use lib.Seq.{getD-set-same}
 use Rattle.answers.specs.Answer.{Answer, done}
 use Rattle.answers.proofs.Determined.{same-value}
-use Rattle.answers.proofs.Orders.{by-test}
+use Rattle.answers.proofs.Orders.{by-test, and-right}
 use Rattle.access.specs.Allowed.{allows}
 use Rattle.walk.specs.Walk.{Reached, found, lost, trailOf}
 use Rattle.access.specs.declared.Kind.{Kind}
@@ -25,7 +25,7 @@ use Rattle.mmu.specs.declared.Translation.the-variants.{At}
 use Rattle.mmu.specs.declared.TlbEntry.{TlbEntry}
 use Rattle.mmu.specs.declared.Mmu.{Mmu}
 use Rattle.mmu.proofs.Determined.{code-positive}
-use Rattle.mmu.proofs.Tests.{and-right, SameFrame, framed}
+use Rattle.mmu.proofs.Tests.{SameFrame, framed}
 use Rattle.mmu.proofs.Sound.{slotHit, shortHit, translate-ind, serves-allows, sure}
 
 -- a state finds a page for an access, and gives its addresses as the frame f does

@@ -29,6 +29,12 @@ Shortcut-is-for = equation (λ κs a e f. refl)
 Shortcut-forget : Strong _ fn.Shortcut.forget.Kinds.ps fn.Shortcut.forget.Kinds.r fn.Shortcut.forget.Reads.Pre fn.Shortcut.forget.Reads.Post
 Shortcut-forget = equation (λ κs a e f. refl)
 
+is-marked : Strong _ fn.is_marked.Kinds.ps fn.is_marked.Kinds.r fn.is_marked.Reads.Pre fn.is_marked.Reads.Post
+is-marked = equation (λ κs a e f. refl)
+
+address-in : Strong _ fn.address_in.Kinds.ps fn.address_in.Kinds.r fn.address_in.Reads.Pre fn.address_in.Reads.Post
+address-in = equation (λ κs a e f. refl)
+
 look-shortcut : Strong _ fn.look_shortcut.Kinds.ps fn.look_shortcut.Kinds.r fn.look_shortcut.Reads.Pre fn.look_shortcut.Reads.Post
 look-shortcut = record { total = λ κs a. tt; determined = λ κs a x y e f p q. (lookups x y (p ∙ sym q), refl) }
 

@@ -1,0 +1,77 @@
+-- The common case, as one sum; and it is a case of what a leaf allows. Assumes nothing.
+use mathlib.Core.Path.{_≡_, refl, _∙_}
+use mathlib.Core.Bool.{Bool, true, false, cond, not, _&&_}
+use Prim.Native.Nat.{ℕ, _+_, _*_, _%_, _<_}
+use native.Mathlib.Omega.{arith}
+use borrow.Author.Tests.{eq-eqb, ne-eqb, eqb-true, eqb-false}
+use lib.Dec.{eqb}
+use Rattle.answers.proofs.Orders.{by-test, and-left, and-right, false-true}
+use Rattle.csr.specs.Modes.{modeOf, isM}
+use Rattle.csr.specs.declared.PrivMode.{PrivMode}
+use Rattle.csr.specs.declared.PrivMode.the-variants.{U, S, M}
+use Rattle.access.specs.Flags.{isR, isUser}
+use Rattle.access.specs.Asked.{isSum, isMxr, accessOf}
+use Rattle.access.specs.Allowed.{openTo, permits, allows}
+use Rattle.access.specs.Plain.{lends, ownPage, plain}
+use Rattle.access.specs.declared.Kind.{Kind}
+use Rattle.access.specs.declared.Kind.the-variants.{Fetch, Load, Store}
+
+-- U's bit u of a leaf, what its flag counts v of its weight w, the mode's number p, and what that counts h, more where MPRV is set: the sum is 16 + w
+-- exactly if u and p make 1, the flag counts and MPRV does not
+pub summed : (u v w p h : ℕ) (flag mprv : Bool) → u < 2 → 0 < w → w < 16 → p < 4
+    → (flag ≡ true → v ≡ w) → (flag ≡ false → v ≡ 0) → (mprv ≡ true → 32 < h) → (mprv ≡ false → h ≡ p * 16)
+    → eqb (u * 16 + v + h) (16 + w) ≡ (not mprv && (cond (eqb p 0) (eqb u 1) (cond (eqb p 1) (not (eqb u 1)) false) && flag))
+summed u v w p h flag true bu lw bw bp f nf l nl = let a = l refl in ne-eqb (u * 16 + v + h) (16 + w) (λ z. omega arith)
+summed u v w p h false false bu lw bw bp f nf l nl =
+    let a = nl refl in let b = nf refl in ne-eqb (u * 16 + v + h) (16 + w) (λ z. omega arith) ∙ and-false (cond (eqb p 0) (eqb u 1) (cond (eqb p 1) (not (eqb u 1)) false))
+  where
+    and-false : (b : Bool) → false ≡ (b && false)
+    and-false true = refl
+    and-false false = refl
+summed u v w p h true false bu lw bw bp f nf l nl =
+    let a = nl refl in
+    let b = f refl in
+    by-test (eqb u 1)
+    (λ t. let x = eqb-true u 1 t in by-test (eqb p 0)
+    (λ z. let y = eqb-true p 0 z in rw (z, t) (eq-eqb (u * 16 + v + h) (16 + w) (omega arith)))
+    (λ z. let y = eqb-false p 0 z in by-test (eqb p 1)
+    (λ q. rw (z, q, t) (ne-eqb (u * 16 + v + h) (16 + w) (λ s. omega arith)))
+    (λ q. rw (z, q) (ne-eqb (u * 16 + v + h) (16 + w) (λ s. omega arith)))))
+    (λ t. let x = eqb-false u 1 t in by-test (eqb p 0)
+    (λ z. let y = eqb-true p 0 z in rw (z, t) (ne-eqb (u * 16 + v + h) (16 + w) (λ s. omega arith)))
+    (λ z. let y = eqb-false p 0 z in by-test (eqb p 1)
+    (λ q. let r = eqb-true p 1 q in rw (z, q, t) (eq-eqb (u * 16 + v + h) (16 + w) (omega arith)))
+    (λ q. let r = eqb-false p 1 q in rw (z, q) (ne-eqb (u * 16 + v + h) (16 + w) (λ s. omega arith)))))
+
+-- the mode's own page, by the mode's number
+pub own-by : (n e : ℕ) → cond (eqb (n % 4) 0) (isUser e) (cond (eqb (n % 4) 1) (not (isUser e)) false) ≡ ownPage (modeOf n) e
+own-by n e = by-test (eqb (n % 4) 0) (λ z. rw z) (λ z. by-test (eqb (n % 4) 1) (λ q. rw (z, q)) (λ q. rw (z, q)))
+
+-- ---- a case of what a leaf allows
+
+own : (k : Kind) (mode : PrivMode) (s : ℕ) → lends k s ≡ false → accessOf k mode s ≡ record { kind = k; mode = mode; sum = isSum s; mxr = isMxr s }
+unfolding accessOf
+own Fetch mode s h = refl
+own Load mode s h = rw h
+own Store mode s h = rw h
+
+own-open : (mode : PrivMode) (k : Kind) (sum : Bool) (e : ℕ) → ownPage mode e ≡ true → (isM mode ≡ false) × (openTo mode k sum e ≡ true)
+own-open U k sum e h = (refl, h)
+own-open S k sum e h = by-test (isUser e) (λ t. absurd (false-true (rw t at h))) (λ t. (refl, rw t))
+own-open M k sum e h = absurd (false-true h)
+
+more-permits : (k : Kind) (mxr : Bool) (e : ℕ) → permits k false e ≡ true → permits k mxr e ≡ true
+more-permits Fetch mxr e h = h
+more-permits Load mxr e h = by-test (isR e) (λ t. rw t) (λ t. absurd (false-true (rw t at h)))
+more-permits Store mxr e h = h
+
+pub plain-allows : (k : Kind) (mode : PrivMode) (s e : ℕ) → plain k mode s e ≡ true → (isM (accessOf k mode s .mode) ≡ false) × (allows (accessOf k mode s) e ≡ true)
+unfolding allows
+plain-allows k mode s e h =
+    by-test (lends k s)
+    (λ t. absurd (false-true (rw t at h)))
+    (λ t.
+    let both : (ownPage mode e && permits k false e) ≡ true = and-right (not (lends k s)) (ownPage mode e && permits k false e) h in
+    let o = own-open mode k (isSum s) e (and-left (ownPage mode e) (permits k false e) both) in
+    let p = more-permits k (isMxr s) e (and-right (ownPage mode e) (permits k false e) both) in
+    rw (own k mode s t) (o .0, rw (o .1) p))
