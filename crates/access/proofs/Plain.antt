@@ -10,9 +10,9 @@ use Rattle.csr.specs.Modes.{modeOf, isM}
 use Rattle.csr.specs.declared.PrivMode.{PrivMode}
 use Rattle.csr.specs.declared.PrivMode.the-variants.{U, S, M}
 use Rattle.access.specs.Flags.{isR, isUser}
-use Rattle.access.specs.Asked.{isSum, isMxr, accessOf}
+use Rattle.access.specs.Asked.{isSum, isMxr, lends, accessOf}
 use Rattle.access.specs.Allowed.{openTo, permits, allows}
-use Rattle.access.specs.Plain.{lends, ownPage, plain}
+use Rattle.access.specs.Plain.{ownPage, plain}
 use Rattle.access.specs.declared.Kind.{Kind}
 use Rattle.access.specs.declared.Kind.the-variants.{Fetch, Load, Store}
 
@@ -51,9 +51,7 @@ own-by n e = by-test (eqb (n % 4) 0) (λ z. rw z) (λ z. by-test (eqb (n % 4) 1)
 
 own : (k : Kind) (mode : PrivMode) (s : ℕ) → lends k s ≡ false → accessOf k mode s ≡ record { kind = k; mode = mode; sum = isSum s; mxr = isMxr s }
 unfolding accessOf
-own Fetch mode s h = refl
-own Load mode s h = rw h
-own Store mode s h = rw h
+own k mode s h = rw h
 
 own-open : (mode : PrivMode) (k : Kind) (sum : Bool) (e : ℕ) → ownPage mode e ≡ true → (isM mode ≡ false) × (openTo mode k sum e ≡ true)
 own-open U k sum e h = (refl, h)

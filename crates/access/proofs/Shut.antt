@@ -5,7 +5,7 @@ use Prim.Native.Nat.{ℕ}
 use Rattle.csr.specs.declared.PrivMode.{PrivMode}
 use Rattle.csr.specs.declared.PrivMode.the-variants.{U, S}
 use Rattle.access.specs.Flags.{isUser}
-use Rattle.access.specs.Allowed.{lent, openTo, permits, allows, Closed, to-user, to-supervisor, to-fetch}
+use Rattle.access.specs.Allowed.{openTo, permits, allows, Closed, to-user, to-supervisor, to-fetch}
 use Rattle.access.specs.declared.Kind.{Kind}
 use Rattle.access.specs.declared.Kind.the-variants.{Fetch, Load, Store}
 use Rattle.access.specs.declared.Access.{Access}

@@ -10,15 +10,15 @@ use Rattle.access.specs.declared.Kind.the-variants.{Fetch, Load, Store}
 use Rattle.access.specs.declared.Access.{Access}
 
 -- a user's page, to S: with SUM, and never to fetch
-abbrev pub lent : Kind → Bool → Bool
-lent Fetch sum = false
-lent Load sum = sum
-lent Store sum = sum
+abbrev pub shared : Kind → Bool → Bool
+shared Fetch sum = false
+shared Load sum = sum
+shared Store sum = sum
 
 -- whose page it is. No table is asked for M, and no leaf is open to it.
 abbrev pub openTo : PrivMode → Kind → Bool → ℕ → Bool
 openTo U k sum e = isUser e
-openTo S k sum e = cond (isUser e) (lent k sum) true
+openTo S k sum e = cond (isUser e) (shared k sum) true
 openTo M k sum e = false
 
 abbrev pub opens : Access → ℕ → Bool

@@ -1,5 +1,5 @@
 -- What is asked for: a kind, with what is in force at the call (Volume II, "Memory Privilege in mstatus Register").
-use mathlib.Core.Bool.{Bool, cond}
+use mathlib.Core.Bool.{Bool, false, cond}
 use Prim.Native.Nat.{ℕ}
 use lib.Dec.{eqb}
 use Rattle.answers.specs.Bits.{bits}
@@ -25,13 +25,13 @@ isMxr mstatus = eqb (bits 19 19 mstatus) 1
 
 -- ---- the effective privilege: with MPRV set, loads and stores are made as if in the mode that MPP names; fetches never are
 
-abbrev pub lentMode : PrivMode → ℕ → PrivMode
-lentMode mode mstatus = cond (isMprv mstatus) (modeOf (mpp mstatus)) mode
+abbrev pub lends : Kind → ℕ → Bool
+lends Fetch mstatus = false
+lends Load mstatus = isMprv mstatus
+lends Store mstatus = isMprv mstatus
 
 abbrev pub effectiveMode : Kind → PrivMode → ℕ → PrivMode
-effectiveMode Fetch mode mstatus = mode
-effectiveMode Load mode mstatus = lentMode mode mstatus
-effectiveMode Store mode mstatus = lentMode mode mstatus
+effectiveMode k mode mstatus = cond (lends k mstatus) (modeOf (mpp mstatus)) mode
 
 -- what a hart in this mode, with this mstatus, asks for
 unfoldable pub accessOf : Kind → PrivMode → ℕ → Access

@@ -4,16 +4,9 @@ use Prim.Native.Nat.{ℕ}
 use Rattle.csr.specs.declared.PrivMode.{PrivMode}
 use Rattle.csr.specs.declared.PrivMode.the-variants.{U, S, M}
 use Rattle.access.specs.Flags.{isUser}
-use Rattle.access.specs.Asked.{isMprv}
+use Rattle.access.specs.Asked.{lends}
 use Rattle.access.specs.Allowed.{permits}
 use Rattle.access.specs.declared.Kind.{Kind}
-use Rattle.access.specs.declared.Kind.the-variants.{Fetch, Load, Store}
-
--- MPRV lends another mode
-abbrev pub lends : Kind → ℕ → Bool
-lends Fetch mstatus = false
-lends Load mstatus = isMprv mstatus
-lends Store mstatus = isMprv mstatus
 
 -- a page of the mode's own: a user's to U, another to S
 abbrev pub ownPage : PrivMode → ℕ → Bool

@@ -1,8 +1,8 @@
 // What is asked of a page, and whether its leaf entry allows it: the privilege checks, which mmu.rs leaves out.
 ghost use mathlib.Core.Path.{_≡_};
 ghost use Rattle.csr.specs.Modes.{modeOf, isM};
-ghost use Rattle.access.specs.Asked.{lentMode, effectiveMode, accessOf};
-ghost use Rattle.access.specs.Allowed.{lent, opens, permits, allows};
+ghost use Rattle.access.specs.Asked.{lends, effectiveMode, accessOf};
+ghost use Rattle.access.specs.Allowed.{shared, opens, permits, allows};
 ghost use Rattle.access.specs.Plain.{plain};
 use csr::Csr;
 use csr::PrivMode;
@@ -21,21 +21,21 @@ pub struct Access {
     pub mxr: bool,
 }
 
-// MPRV lends loads and stores the mode that MPP names. A fetch is always the hart's own.
-fn effective_mode(kind: Kind, mode: PrivMode, mstatus: u64) -> PrivMode
-    ensures { λ r. ⌜ r ≡ effectiveMode kind mode mstatus ⌝ }
+// Whether MPRV lends another mode.
+fn is_lent(kind: Kind, mstatus: u64) -> bool
+    ensures { λ r. ⌜ r ≡ lends kind mstatus ⌝ }
 {
     match kind {
-        Kind::Fetch => mode,
-        Kind::Load => lent_mode(mode, mstatus),
-        Kind::Store => lent_mode(mode, mstatus),
+        Kind::Fetch => false, // always the hart's own
+        Kind::Load => mstatus & Csr::MSTATUS_MPRV != 0,
+        Kind::Store => mstatus & Csr::MSTATUS_MPRV != 0,
     }
 }
 
-fn lent_mode(mode: PrivMode, mstatus: u64) -> PrivMode
-    ensures { λ r. ⌜ r ≡ lentMode mode mstatus ⌝ }
+fn effective_mode(kind: Kind, mode: PrivMode, mstatus: u64) -> PrivMode
+    ensures { λ r. ⌜ r ≡ effectiveMode kind mode mstatus ⌝ }
 {
-    if mstatus & Csr::MSTATUS_MPRV != 0 {
+    if is_lent(kind, mstatus) {
         return PrivMode::from_bits(mstatus >> 11);
     }
     mode
@@ -85,7 +85,7 @@ impl Access {
             PrivMode::U => (leaf >> 4) % 2 == 1,
             PrivMode::S => {
                 if (leaf >> 4) % 2 == 1 {
-                    self.is_lent()
+                    self.is_shared()
                 } else {
                     true
                 }
@@ -95,12 +95,12 @@ impl Access {
     }
 
     // A user's page, to S.
-    fn is_lent(self) -> bool
-        ensures { λ r. ⌜ r ≡ lent (self .kind) (self .sum) ⌝ }
+    fn is_shared(self) -> bool
+        ensures { λ r. ⌜ r ≡ shared (self .kind) (self .sum) ⌝ }
     {
         let kind = self.kind;
         match kind {
-            Kind::Fetch => false,
+            Kind::Fetch => false, // whatever SUM is
             Kind::Load => self.sum,
             Kind::Store => self.sum,
         }

@@ -1,44 +1,29 @@
--- `access::effective_mode` meets its contract. Assumes nothing.
-use mathlib.Core.Path.{sym, ap, _∙_}
-use Rattle.access.specs.Asked.{effectiveMode}
-use Rattle.access.specs.declared.Kind.{Kind}
+-- `access::effective_mode` meets its contract: of MPP's word the two low bits count. Assumes nothing.
+use mathlib.Core.Path.{_≡_, sym, _∙_}
+use native.Mathlib.Omega.{arith}
+use Prim.Native.Nat.{ℕ, _/_, _%_, _^_}
+use Rattle.csr.specs.Modes.{modeOf}
 use borrow.Author.Needs.{needs}
 use Rattle.access.proofs.effective_mode.Statement.{statement}
 use Rattle.access.proofs.effective_mode.Tie as tie
 
-enum-told : tie.Need-enum-told
-enum-told c = search needs
+is-lent-requires : tie.Need-is-lent-requires
+is-lent-requires c κs = search needs
 
-enum-told-2 : tie.Need-enum-told-2
-enum-told-2 c = search needs
+from-bits-requires : tie.Need-from-bits-requires
+from-bits-requires c κs = search needs
 
-lent-mode-requires : tie.Need-lent-mode-requires
-lent-mode-requires c κs = search needs
-
-enum-told-3 : tie.Need-enum-told-3
-enum-told-3 c = search needs
-
-lent-mode-requires-2 : tie.Need-lent-mode-requires-2
-lent-mode-requires-2 c κs = search needs
+-- a mode's number counts modulo 4
+low-bits : (n : ℕ) → modeOf n ≡ modeOf (n % 4)
+low-bits n = let e : n % 4 ≡ n % 4 % 4 = omega arith in rw (← e)
 
 returns : tie.Need-returns
-returns c = search needs
+returns c =
+    let l = c .before .before
+    in rw (sym (l .is-lent .ensures) ∙ c .before .if1 .taken) (c .from-bits .ensures ∙ low-bits (l .before .args .mstatus / 2 ^ 11))
 
 returns-2 : tie.Need-returns-2
-returns-2 c = let a = c .before .before .before .args in c .lent-mode .ensures ∙ ap (λ (k : Kind). effectiveMode k (a .mode) (a .mstatus)) (sym (c .before .enum-told2 .given .1))
-
-returns-3 : tie.Need-returns-3
-returns-3 c = let a = c .before .before .before .args in c .lent-mode2 .ensures ∙ ap (λ (k : Kind). effectiveMode k (a .mode) (a .mstatus)) (sym (c .before .enum-told3 .given .1))
+returns-2 c = rw (sym (c .before .is-lent .ensures) ∙ c .if1 .left)
 
 pub effective-mode-spec : {M : Type 1} → statement M
-effective-mode-spec =
-    tie.close
-    (tie.spec
-    enum-told
-    enum-told-2
-    lent-mode-requires
-    enum-told-3
-    lent-mode-requires-2
-    returns
-    returns-2
-    returns-3)
+effective-mode-spec = tie.close (tie.spec is-lent-requires from-bits-requires returns returns-2)

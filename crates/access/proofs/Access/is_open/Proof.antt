@@ -10,8 +10,8 @@ enum-told c = search needs
 enum-told-2 : tie.Need-enum-told-2
 enum-told-2 c = search needs
 
-is-lent-requires : tie.Need-is-lent-requires
-is-lent-requires c κs = search needs
+is-shared-requires : tie.Need-is-shared-requires
+is-shared-requires c κs = search needs
 
 enum-told-3 : tie.Need-enum-told-3
 enum-told-3 c = search needs
@@ -20,7 +20,7 @@ returns : tie.Need-returns
 returns c = rw (c .enum-told .given .1)
 
 returns-2 : tie.Need-returns-2
-returns-2 c = rw (c .before .before .enum-told2 .given .1, eq-eqb _ 1 (c .before .if1 .taken)) (c .is-lent .ensures)
+returns-2 c = rw (c .before .before .enum-told2 .given .1, eq-eqb _ 1 (c .before .if1 .taken)) (c .is-shared .ensures)
 
 returns-3 : tie.Need-returns-3
 returns-3 c = rw (c .before .enum-told2 .given .1, ne-eqb _ 1 (c .if1 .left))
@@ -34,7 +34,7 @@ is-open-spec =
     (tie.spec
     enum-told
     enum-told-2
-    is-lent-requires
+    is-shared-requires
     enum-told-3
     returns
     returns-2
