@@ -3,7 +3,7 @@ use mathlib.Core.Path.{_≡_, ap, _∙_}
 use mathlib.Core.Bool.{Bool, false, cond, true, _&&_}
 use Prim.Native.Nat.{ℕ}
 use Rattle.csr.specs.declared.PrivMode.{PrivMode}
-use Rattle.csr.specs.declared.PrivMode.the-variants.{U, S}
+use Rattle.csr.specs.declared.PrivMode.the-variants.{S}
 use Rattle.access.specs.Flags.{isUser}
 use Rattle.access.specs.Allowed.{openTo, permits, allows, Closed, to-user, to-supervisor, to-fetch}
 use Rattle.access.specs.declared.Kind.{Kind}

@@ -1,9 +1,9 @@
 -- What privilege keeps out, whatever was cached before, for whom and under which SUM and MXR. Assumes nothing.
 use mathlib.Core.Path.{_≡_, ap, _∙_}
-use mathlib.Core.Bool.{Bool, true, false, cond, _&&_}
+use mathlib.Core.Bool.{Bool, true, cond, _&&_}
 use mathlib.Core.List.{List}
 use Prim.Native.Nat.{ℕ, _^_, _<_}
-use Rattle.access.specs.Allowed.{allows, Closed}
+use Rattle.access.specs.Allowed.{Closed}
 use Rattle.access.proofs.Shut.{shut}
 use Rattle.walk.specs.Entries.{aligned}
 use Rattle.walk.specs.Walk.{found, lost, target, judge}
