@@ -1,5 +1,5 @@
 -- The common case, as one sum; and it is a case of what a leaf allows. Assumes nothing.
-use mathlib.Core.Path.{_≡_, refl, _∙_}
+use mathlib.Core.Path.{_≡_, refl, sym, _∙_}
 use mathlib.Core.Bool.{Bool, true, false, cond, not, _&&_}
 use Prim.Native.Nat.{ℕ, _+_, _*_, _%_, _<_}
 use native.Mathlib.Omega.{arith}
@@ -11,24 +11,49 @@ use Rattle.csr.specs.declared.PrivMode.{PrivMode}
 use Rattle.csr.specs.declared.PrivMode.the-variants.{U, S, M}
 use Rattle.access.specs.Flags.{isR, isUser}
 use Rattle.access.specs.Asked.{isSum, isMxr, lends, accessOf}
-use Rattle.access.specs.Allowed.{openTo, permits, allows}
+use Rattle.access.specs.Allowed.{openTo, permits, marked, allows}
 use Rattle.access.specs.Plain.{ownPage, plain}
 use Rattle.access.specs.declared.Kind.{Kind}
 use Rattle.access.specs.declared.Kind.the-variants.{Fetch, Load, Store}
 
--- U's bit u of a leaf, what its flag counts v of its weight w, the mode's number p, and what that counts h, more where MPRV is set: the sum is 16 + w
--- exactly if u and p make 1, the flag counts and MPRV does not
-pub summed : (u v w p h : ℕ) (flag mprv : Bool) → u < 2 → 0 < w → w < 16 → p < 4
-    → (flag ≡ true → v ≡ w) → (flag ≡ false → v ≡ 0) → (mprv ≡ true → 32 < h) → (mprv ≡ false → h ≡ p * 16)
-    → eqb (u * 16 + v + h) (16 + w) ≡ (not mprv && (cond (eqb p 0) (eqb u 1) (cond (eqb p 1) (not (eqb u 1)) false) && flag))
-summed u v w p h flag true bu lw bw bp f nf l nl = let a = l refl in ne-eqb (u * 16 + v + h) (16 + w) (λ z. omega arith)
-summed u v w p h false false bu lw bw bp f nf l nl =
-    let a = nl refl in let b = nf refl in ne-eqb (u * 16 + v + h) (16 + w) (λ z. omega arith) ∙ and-false (cond (eqb p 0) (eqb u 1) (cond (eqb p 1) (not (eqb u 1)) false))
+-- two bits, or three, that are all set, or of which one is clear
+pub both-set : (x y : ℕ) → (eqb x 1 && eqb y 1) ≡ true → (x ≡ 1) × (y ≡ 1)
+both-set x y h = (eqb-true x 1 (and-left (eqb x 1) (eqb y 1) h), eqb-true y 1 (and-right (eqb x 1) (eqb y 1) h))
+
+pub one-clear : {C : Type 0} (x y : ℕ) → x < 2 → y < 2 → (eqb x 1 && eqb y 1) ≡ false → (x ≡ 0 → C) → (x ≡ 1 → y ≡ 0 → C) → C
+one-clear x y bx by h first second =
+    by-test (eqb x 1)
+    (λ s. by-test (eqb y 1)
+    (λ t. absurd (false-true (sym h ∙ rw (s, t))))
+    (λ t. let z = eqb-false y 1 t in second (eqb-true x 1 s) (omega arith)))
+    (λ s. let z = eqb-false x 1 s in first (omega arith))
+
+pub three-set : (x y z : ℕ) → (eqb x 1 && (eqb y 1 && eqb z 1)) ≡ true → (x ≡ 1) × (y ≡ 1) × (z ≡ 1)
+three-set x y z h =
+    let both = both-set y z (and-right (eqb x 1) (eqb y 1 && eqb z 1) h)
+    in (eqb-true x 1 (and-left (eqb x 1) (eqb y 1 && eqb z 1) h), both .0, both .1)
+
+pub one-of-three-clear : {C : Type 0} (x y z : ℕ) → x < 2 → y < 2 → z < 2 → (eqb x 1 && (eqb y 1 && eqb z 1)) ≡ false
+    → (x ≡ 0 → C) → (x ≡ 1 → y ≡ 0 → C) → (x ≡ 1 → y ≡ 1 → z ≡ 0 → C) → C
+one-of-three-clear x y z bx by bz h first second third =
+    by-test (eqb x 1)
+    (λ s. let x1 = eqb-true x 1 s in one-clear y z by bz (rw s at h) (second x1) (third x1))
+    (λ s. let n = eqb-false x 1 s in first (omega arith))
+
+-- U's bit u of a leaf, what its flag and its marks count v of the weight w that they have together, the mode's number p, and what that counts h, more
+-- where MPRV is set: the sum is 16 + w exactly if u and p make 1, flag and marks count in full and MPRV does not. For what they else count, u and p
+-- cannot make up.
+pub summed : (u v w p h : ℕ) (full mprv : Bool) → u < 2 → p < 4
+    → (full ≡ true → v ≡ w) → (full ≡ false → (n : ℕ) → n < 5 → n * 16 + v ≡ 16 + w → ⊥) → (mprv ≡ true → 16 + w < h) → (mprv ≡ false → h ≡ p * 16)
+    → eqb (u * 16 + v + h) (16 + w) ≡ (not mprv && (cond (eqb p 0) (eqb u 1) (cond (eqb p 1) (not (eqb u 1)) false) && full))
+summed u v w p h full true bu bp f nf l nl = let a = l refl in ne-eqb (u * 16 + v + h) (16 + w) (λ z. omega arith)
+summed u v w p h false false bu bp f nf l nl =
+    let a = nl refl in ne-eqb (u * 16 + v + h) (16 + w) (λ z. nf refl (u + p) (omega arith) (omega arith)) ∙ and-false (cond (eqb p 0) (eqb u 1) (cond (eqb p 1) (not (eqb u 1)) false))
   where
     and-false : (b : Bool) → false ≡ (b && false)
     and-false true = refl
     and-false false = refl
-summed u v w p h true false bu lw bw bp f nf l nl =
+summed u v w p h true false bu bp f nf l nl =
     let a = nl refl in
     let b = f refl in
     by-test (eqb u 1)
@@ -69,7 +94,8 @@ plain-allows k mode s e h =
     by-test (lends k s)
     (λ t. absurd (false-true (rw t at h)))
     (λ t.
-    let both : (ownPage mode e && permits k false e) ≡ true = and-right (not (lends k s)) (ownPage mode e && permits k false e) h in
-    let o = own-open mode k (isSum s) e (and-left (ownPage mode e) (permits k false e) both) in
-    let p = more-permits k (isMxr s) e (and-right (ownPage mode e) (permits k false e) both) in
-    rw (own k mode s t) (o .0, rw (o .1) p))
+    let all = and-right (not (lends k s)) (ownPage mode e && (permits k false e && marked k e)) h in
+    let o = own-open mode k (isSum s) e (and-left (ownPage mode e) (permits k false e && marked k e) all) in
+    let leaf = and-right (ownPage mode e) (permits k false e && marked k e) all in
+    let p = more-permits k (isMxr s) e (and-left (permits k false e) (marked k e) leaf) in
+    rw (own k mode s t) (o .0, rw (o .1, p) (and-right (permits k false e) (marked k e) leaf)))

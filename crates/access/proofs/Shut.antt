@@ -5,7 +5,7 @@ use Prim.Native.Nat.{ℕ}
 use Rattle.csr.specs.declared.PrivMode.{PrivMode}
 use Rattle.csr.specs.declared.PrivMode.the-variants.{S}
 use Rattle.access.specs.Flags.{isUser}
-use Rattle.access.specs.Allowed.{openTo, permits, allows, Closed, to-user, to-supervisor, to-fetch}
+use Rattle.access.specs.Allowed.{openTo, permits, marked, allows, Closed, to-user, to-supervisor, to-fetch}
 use Rattle.access.specs.declared.Kind.{Kind}
 use Rattle.access.specs.declared.Kind.the-variants.{Fetch, Load, Store}
 use Rattle.access.specs.declared.Access.{Access}
@@ -17,7 +17,7 @@ without-sum Store e h = rw h
 
 shut-to : (x : Access) (e : ℕ) → openTo (x .mode) (x .kind) (x .sum) e ≡ false → allows x e ≡ false
 unfolding allows
-shut-to x e h = ap (λ (b : Bool). b && permits (x .kind) (x .mxr) e) h
+shut-to x e h = ap (λ (b : Bool). b && (permits (x .kind) (x .mxr) e && marked (x .kind) e)) h
 
 pub shut : (x : Access) (e : ℕ) → Closed x e → allows x e ≡ false
 shut x e (to-user m h) = shut-to x e (ap (λ (p : PrivMode). openTo p (x .kind) (x .sum) e) m ∙ h)

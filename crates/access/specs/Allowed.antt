@@ -4,7 +4,7 @@ use mathlib.Core.Bool.{Bool, true, false, cond, _&&_, _||_}
 use Prim.Native.Nat.{ℕ}
 use Rattle.csr.specs.declared.PrivMode.{PrivMode}
 use Rattle.csr.specs.declared.PrivMode.the-variants.{U, S, M}
-use Rattle.access.specs.Flags.{isR, isW, isX, isUser}
+use Rattle.access.specs.Flags.{isR, isW, isX, isUser, isA, isD}
 use Rattle.access.specs.declared.Kind.{Kind}
 use Rattle.access.specs.declared.Kind.the-variants.{Fetch, Load, Store}
 use Rattle.access.specs.declared.Access.{Access}
@@ -30,8 +30,15 @@ permits Fetch mxr e = isX e
 permits Load mxr e = isR e || (mxr && isX e)
 permits Store mxr e = isW e
 
+-- A is set and, for a store, D (step 7, as the extension Svade has it: no entry is ever updated)
+abbrev pub marked : Kind → ℕ → Bool
+marked Fetch e = isA e
+marked Load e = isA e
+marked Store e = isA e && isD e
+
+-- steps 5 and 7
 unfoldable pub allows : Access → ℕ → Bool
-allows x e = opens x e && permits (x .kind) (x .mxr) e
+allows x e = opens x e && (permits (x .kind) (x .mxr) e && marked (x .kind) e)
 
 -- a page that is closed to an access, whatever R, W and X it has: a page of S to U; a user's page to S without SUM, and to S that fetches
 pub data Closed (x : Access) (e : ℕ) : Type 0 where

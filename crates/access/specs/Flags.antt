@@ -20,5 +20,9 @@ isX e = eqb (bits 3 3 e) 1
 abbrev pub isUser : ℕ → Bool
 isUser e = eqb (bits 4 4 e) 1
 
+-- it was accessed, and it was written to
+abbrev pub isA : ℕ → Bool
+isA e = eqb (bits 6 6 e) 1
+
 abbrev pub isD : ℕ → Bool
 isD e = eqb (bits 7 7 e) 1

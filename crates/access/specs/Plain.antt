@@ -5,7 +5,7 @@ use Rattle.csr.specs.declared.PrivMode.{PrivMode}
 use Rattle.csr.specs.declared.PrivMode.the-variants.{U, S, M}
 use Rattle.access.specs.Flags.{isUser}
 use Rattle.access.specs.Asked.{lends}
-use Rattle.access.specs.Allowed.{permits}
+use Rattle.access.specs.Allowed.{permits, marked}
 use Rattle.access.specs.declared.Kind.{Kind}
 
 -- a page of the mode's own: a user's to U, another to S
@@ -15,4 +15,4 @@ ownPage S e = not (isUser e)
 ownPage M e = false
 
 abbrev pub plain : Kind → PrivMode → ℕ → ℕ → Bool
-plain k mode mstatus e = not (lends k mstatus) && (ownPage mode e && permits k false e)
+plain k mode mstatus e = not (lends k mstatus) && (ownPage mode e && (permits k false e && marked k e))

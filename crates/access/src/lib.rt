@@ -2,7 +2,7 @@
 ghost use mathlib.Core.Path.{_≡_};
 ghost use Rattle.csr.specs.Modes.{modeOf, isM};
 ghost use Rattle.access.specs.Asked.{lends, effectiveMode, accessOf};
-ghost use Rattle.access.specs.Allowed.{shared, opens, permits, allows};
+ghost use Rattle.access.specs.Allowed.{shared, opens, permits, marked, allows};
 ghost use Rattle.access.specs.Plain.{plain};
 use csr::Csr;
 use csr::PrivMode;
@@ -66,15 +66,16 @@ impl Access {
         }
     }
 
-    // Whether a leaf allows it, by whose page it is and by what it may be used for.
+    // Whether a leaf allows it, by whose page it is, by what it may be used for and by its marks.
     pub fn allows(self, leaf: u64) -> bool
         ensures { λ r. ⌜ r ≡ allows self leaf ⌝ }
     {
         if self.is_open(leaf) {
-            self.is_permitted(leaf)
-        } else {
-            false
+            if self.is_permitted(leaf) {
+                return self.is_marked(leaf);
+            }
         }
+        false
     }
 
     fn is_open(self, leaf: u64) -> bool
@@ -124,19 +125,39 @@ impl Access {
             Kind::Store => (leaf >> 2) % 2 == 1,
         }
     }
+
+    // No entry is ever updated: without its mark, a page faults.
+    fn is_marked(self, leaf: u64) -> bool
+        ensures { λ r. ⌜ r ≡ marked (self .kind) leaf ⌝ }
+    {
+        let kind = self.kind;
+        match kind {
+            Kind::Fetch => (leaf >> 6) % 2 == 1,
+            Kind::Load => (leaf >> 6) % 2 == 1,
+            Kind::Store => {
+                if (leaf >> 6) % 2 == 1 {
+                    (leaf >> 7) % 2 == 1
+                } else {
+                    false
+                }
+            }
+        }
+    }
 }
 
 // Whether a leaf allows it whatever SUM and MXR are, to a hart whose own mode counts: the common case, as one comparison. The page's U and the
-// mode's number make 1 where the page is the mode's own, U's number being 0 and S's 1; the kind's flag is set; MPRV is clear.
+// mode's number make 1 where the page is the mode's own, U's number being 0 and S's 1; the kind's flag and marks are set; MPRV is clear.
 pub fn is_plain(kind: Kind, privilege: u64, mstatus: u64, leaf: u64) -> bool
     ensures { λ r. ⌜ r ≡ plain kind (modeOf privilege) mstatus leaf ⌝ }
 {
     let user = (leaf >> 4) % 2 * 16;
+    let accessed = (leaf >> 6) % 2 * 64;
+    let written = (leaf >> 7) % 2 * 128;
     let hart = privilege % 4 * 16;
     let lent = (mstatus >> 17) % 2 * 0x2_0000;
     match kind {
-        Kind::Fetch => user + (leaf >> 3) % 2 * 8 + hart == 24,
-        Kind::Load => user + (leaf >> 1) % 2 * 2 + (hart + lent) == 18,
-        Kind::Store => user + (leaf >> 2) % 2 * 4 + (hart + lent) == 20,
+        Kind::Fetch => user + ((leaf >> 3) % 2 * 8 + accessed) + hart == 88,
+        Kind::Load => user + ((leaf >> 1) % 2 * 2 + accessed) + (hart + lent) == 82,
+        Kind::Store => user + ((leaf >> 2) % 2 * 4 + (accessed + written)) + (hart + lent) == 212,
     }
 }

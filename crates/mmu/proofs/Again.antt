@@ -1,6 +1,6 @@
 -- Demand 3's last sentence: what was just answered is answered again, in the same frame and with no table entry read. Assumes nothing.
 use mathlib.Core.Path.{_≡_, refl, sym, ap, _∙_}
-use mathlib.Core.Bool.{true, false, _&&_}
+use mathlib.Core.Bool.{Bool, true, false, _&&_}
 use mathlib.Core.List.{List, [], _∷_}
 use Prim.Native.Nat.{ℕ, _%_, _^_, _<_}
 use native.Mathlib.Nat.{mod-lt}
@@ -12,21 +12,22 @@ use Rattle.answers.specs.Answer.{Answer, done}
 use Rattle.answers.proofs.Determined.{same-value}
 use Rattle.answers.proofs.Orders.{by-test, and-right}
 use Rattle.access.specs.Allowed.{allows}
-use Rattle.walk.specs.Walk.{Reached, found, lost, trailOf}
+use Rattle.walk.specs.Walk.{Reached, found, lost, walkable, canonical, levels, trailOf}
 use Rattle.access.specs.declared.Kind.{Kind}
 use Rattle.access.specs.declared.Kind.the-variants.{Fetch, Load, Store}
 use Rattle.access.specs.declared.Access.{Access}
+use Rattle.walk.proofs.Barred.{barred-lost}
 use Rattle.walk.specs.declared.VirtPage.{VirtPage}
 use Rattle.walk.specs.declared.PhysPage.{PhysPage}
 use Rattle.mmu.specs.Answers.{faultOf, withoutReads}
-use Rattle.mmu.specs.Cache.{slotOf, shortcutTo, emptySlot, newMmu, Call, pageOf, frameOf, inFrame, unpaged, accepts, freshWalk, marked, serves, live, matches, quick, afterWalk, lookShortcut, lookSlot, look, decide, answerOf, zeroSlot, slotAt, shortcutOf, withShortcut, remember, fill, applied, outcomeOn, translate, flush}
+use Rattle.mmu.specs.Cache.{slotOf, shortcutTo, emptySlot, newMmu, Call, pageOf, frameOf, inFrame, unpaged, accepts, freshWalk, live, held, matches, quick, afterWalk, lookCache, look, decide, answerOf, zeroSlot, slotAt, shortcutOf, withShortcut, remember, fill, applied, outcomeOn, translate, flush}
 use Rattle.mmu.specs.History.{Event, flushed, called, peeked, step, run}
 use Rattle.mmu.specs.declared.Translation.the-variants.{At}
 use Rattle.mmu.specs.declared.TlbEntry.{TlbEntry}
 use Rattle.mmu.specs.declared.Mmu.{Mmu}
 use Rattle.mmu.proofs.Determined.{code-positive}
 use Rattle.mmu.proofs.Tests.{SameFrame, framed}
-use Rattle.mmu.proofs.Sound.{slotHit, shortHit, translate-ind, serves-allows, sure}
+use Rattle.mmu.proofs.Sound.{slotHit, shortHit, translate-ind, held-allows, sure}
 
 -- a state finds a page for an access, and gives its addresses as the frame f does
 pub data Finds (n : ℕ) (s : Mmu) (x : Access) (satp : ℕ) (page : VirtPage) (f : PhysPage) : Type 0 where
@@ -37,11 +38,11 @@ in-frame : (n : ℕ) (s : Mmu) (x : Access) (satp : ℕ) (page : VirtPage) (f g 
 in-frame n s x satp page f g e (by-shortcut q h) = by-shortcut q (λ a. h a ∙ e a)
 in-frame n s x satp page f g e (by-slot q l h) = by-slot q l (λ a. h a ∙ e a)
 
-cached : (n : ℕ) (s : Mmu) (d : Call) (f : PhysPage) → accepts d ≡ true → unpaged (d .access) (d .satp) ≡ false
+cached : (n : ℕ) (s : Mmu) (d : Call) (f : PhysPage) → accepts d ≡ true → unpaged (d .access) (d .satp) ≡ false → walkable (d .satp) ≡ true
     → Finds n s (d .access) (d .satp) (pageOf (d .address)) f → translate n s d .answer ≡ At (inFrame f (d .address)) 0
-unfolding translate outcomeOn decide look lookShortcut lookSlot
-cached n s d f u v (by-shortcut q h) = rw (u, v, q) (ap (λ (a : ℕ). At a 0) (h (d .address)))
-cached n s d f u v (by-slot q l h) = rw (u, v, q, l) (ap (λ (a : ℕ). At a 0) (h (d .address)))
+unfolding translate outcomeOn decide look lookCache
+cached n s d f u v w (by-shortcut q h) = rw (u, v, w, q) (ap (λ (a : ℕ). At a 0) (h (d .address)))
+cached n s d f u v w (by-slot q l h) = rw (u, v, w, q, l) (ap (λ (a : ℕ). At a 0) (h (d .address)))
 
 -- ---- a call that succeeded leaves a state that finds its page
 
@@ -61,34 +62,41 @@ remember-found n s x satp page frame leaf = go (x .kind)
     go Load al h = by-shortcut (rw (eq-eqb (page .0) (page .0) refl, eq-eqb satp satp refl) al) (λ a. refl)
     go Store al h = by-shortcut (rw (eq-eqb (page .0) (page .0) refl, eq-eqb satp satp refl) al) (λ a. refl)
 
-fetch-serves : (x : Access) (e : ℕ) → x .kind ≡ Fetch → allows x e ≡ true → serves x e ≡ true
-unfolding serves
-fetch-serves x e f h = ap (λ (k : Kind). allows x e && marked k e) f ∙ rw h
-
-fill-hit : (n : ℕ) (s : Mmu) (x : Access) (page : VirtPage) (frame : PhysPage) (leaf : ℕ) → 0 < n → length (s .tlb) ≡ n → x .kind ≡ Fetch → allows x leaf ≡ true
+fill-hit : (n : ℕ) (s : Mmu) (x : Access) (page : VirtPage) (frame : PhysPage) (leaf : ℕ) → 0 < n → length (s .tlb) ≡ n → allows x leaf ≡ true
     → (slotHit n (fill n s page frame leaf) x page ≡ true) × (slotAt n (fill n s page frame leaf) page .frame ≡ frame)
-unfolding fill slotAt live
-fill-hit n s x page frame leaf pos size f h =
+unfolding fill slotAt held live
+fill-hit n s x page frame leaf pos size h =
     let y : TlbEntry = slotOf page frame leaf (s .epoch) in
     let at : getD (set (s .tlb) (page .0 % n) y) (page .0 % n) zeroSlot ≡ y = getD-set-same (s .tlb) (page .0 % n) y zeroSlot (rw size (mod-lt (page .0) pos)) in
-    (rw (at, eq-eqb (page .0) (page .0) refl, eq-eqb (s .epoch) (s .epoch) refl) (fetch-serves x leaf f h), ap (λ (z : TlbEntry). z .frame) at)
+    (rw (at, eq-eqb (page .0) (page .0) refl, eq-eqb (s .epoch) (s .epoch) refl) h, ap (λ (z : TlbEntry). z .frame) at)
 
 accepted-if-done : (n : ℕ) (s : Mmu) (c : Call) (t : ℕ) → withoutReads (translate n s c .answer) ≡ done t → accepts c ≡ true
-unfolding translate outcomeOn decide look lookShortcut lookSlot
+unfolding translate outcomeOn decide look
 accepted-if-done n s c t ok = by-test (accepts c) (λ u. u) (λ u. absurd (let z : 4 ≡ 0 = ap (λ (w : Answer ℕ). w .number) (rw u at ok) in omega arith))
+
+-- a success that was paged was under a satp that names tables
+walked-if-done : (n : ℕ) (s : Mmu) (c : Call) (t : ℕ) → accepts c ≡ true → unpaged (c .access) (c .satp) ≡ false → withoutReads (translate n s c .answer) ≡ done t
+    → walkable (c .satp) ≡ true
+unfolding translate outcomeOn decide look freshWalk
+walked-if-done n s c t u v ok =
+    by-test (walkable (c .satp)) (λ w. w)
+    (λ w.
+    let gone = barred-lost (c .access) (c .memory) (c .address) (c .satp) (ap (λ (b : Bool). b && canonical levels (c .address)) w)
+    in absurd (code-positive (faultOf (c .access .kind) (c .address)) (ap (λ (x : Answer ℕ). x .number) (rw (u, v, w, gone) at ok))))
 
 found-again : (n : ℕ) (s : Mmu) (c : Call) (t : ℕ) → 0 < n → length (s .tlb) ≡ n → unpaged (c .access) (c .satp) ≡ false → withoutReads (translate n s c .answer) ≡ done t
     → Finds n (translate n s c .mmu) (c .access) (c .satp) (pageOf (c .address)) (frameOf t)
-unfolding translate outcomeOn decide look lookShortcut lookSlot remember freshWalk
+unfolding translate outcomeOn decide look lookCache remember freshWalk
 found-again n s c t pos size v ok =
     let page = pageOf (c .address) in
     let slot = slotAt n s page .frame in
     let u = accepted-if-done n s c t ok in
+    let w = walked-if-done n s c t u v ok in
     by-test (shortHit s (c .access) (c .satp) page)
-    (λ q. rw (u, v, q) (by-shortcut q (rw (← same-value (rw (u, v, q) at ok)) (framed (shortcutOf (c .access) s .frame) (c .address)))))
+    (λ q. rw (u, v, w, q) (by-shortcut q (rw (← same-value (rw (u, v, w, q) at ok)) (framed (shortcutOf (c .access) s .frame) (c .address)))))
     (λ q. by-test (slotHit n s (c .access) page)
-    (λ l. rw (u, v, q, l) (in-frame n _ (c .access) (c .satp) page slot (frameOf t) (rw (← same-value (rw (u, v, q, l) at ok)) (framed slot (c .address))) (remember-found n s (c .access) (c .satp) page slot (slotAt n s page .leaf) (serves-allows (c .access) _ (and-right (live (slotAt n s page) (s .epoch) page) _ l)) (λ f. (l, refl)))))
-    (λ l. rw (u, v, q, l) (onWalk (freshWalk c) refl (rw (u, v, q, l) at ok))))
+    (λ l. rw (u, v, w, q, l) (in-frame n _ (c .access) (c .satp) page slot (frameOf t) (rw (← same-value (rw (u, v, w, q, l) at ok)) (framed slot (c .address))) (remember-found n s (c .access) (c .satp) page slot (slotAt n s page .leaf) (held-allows (slotAt n s page) (s .epoch) (c .access) page l) (λ f. (l, refl)))))
+    (λ l. rw (u, v, w, q, l) (onWalk (freshWalk c) refl (rw (u, v, w, q, l) at ok))))
   where
     onWalk : (w : Reached) → freshWalk c ≡ w → withoutReads (answerOf (afterWalk c w)) ≡ done t
         → Finds n (applied n s c (afterWalk c w)) (c .access) (c .satp) (pageOf (c .address)) (frameOf t)
@@ -96,7 +104,7 @@ found-again n s c t pos size v ok =
         rw (← same-value z)
         (let al = sure (c .access) (c .address) (trailOf (c .memory) (c .address) (c .satp) .stop) b e h .allowed in
         remember-found n (fill n s (pageOf (c .address)) (frameOf b) e) (c .access) (c .satp) (pageOf (c .address)) (frameOf b) e al
-        (λ f. fill-hit n s (c .access) (pageOf (c .address)) (frameOf b) e pos size f al))
+        (λ f. fill-hit n s (c .access) (pageOf (c .address)) (frameOf b) e pos size al))
     onWalk lost h z = absurd (code-positive (faultOf (c .access .kind) (c .address)) (ap (λ (w : Answer ℕ). w .number) z))
 
 -- a state keeps its number of slots
@@ -132,7 +140,7 @@ pub record Again (c d : Call) : Type 0 where
 
 -- where nothing is paged, an address leads to itself
 straight : (n : ℕ) (s : Mmu) (d : Call) → accepts d ≡ true → unpaged (d .access) (d .satp) ≡ true → translate n s d .answer ≡ At (d .address) 0
-unfolding translate outcomeOn decide look lookShortcut lookSlot
+unfolding translate outcomeOn decide look
 straight n s d u v = rw (u, v)
 
 again : (n : ℕ) (s : Mmu) (c d : Call) (t : ℕ) → 0 < n → length (s .tlb) ≡ n → withoutReads (translate n s c .answer) ≡ done t
@@ -144,7 +152,9 @@ again n s c d t pos size ok g u small =
     let p = ap (λ (x : VirtPage). x .0) (g .page) in
     let z : d .address ≡ inFrame (frameOf t) (d .address) = rw e (omega arith) in
     straight n (translate n s c .mmu) d u (rw (g .access, g .satp) v) ∙ ap (λ (a : ℕ). At a 0) z)
-    (λ v. cached n (translate n s c .mmu) d (frameOf t) u (rw (g .access, g .satp) v) (rw (g .access, g .satp, g .page) (found-again n s c t pos size v ok)))
+    (λ v.
+    let w = walked-if-done n s c t (accepted-if-done n s c t ok) v ok in
+    cached n (translate n s c .mmu) d (frameOf t) u (rw (g .access, g .satp) v) (rw (g .satp) w) (rw (g .access, g .satp, g .page) (found-again n s c t pos size v ok)))
 
 -- THE LAST SENTENCE. Made again at once after a success, of the same kind, page and satp, with equal privilege, SUM and MXR: it succeeds, in the same
 -- frame, and reads no table entry.

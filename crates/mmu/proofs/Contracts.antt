@@ -1,7 +1,7 @@
 -- The contract of each public function takes anything and allows one outcome. Assumes nothing.
 use mathlib.Core.Path.{refl, sym, _∙_}
 use Rattle.answers.specs.Strong.{Strong}
-use Rattle.mmu.proofs.Determined.{translations, calls, lookups, outcomes}
+use Rattle.mmu.proofs.Determined.{translations, calls, outcomes}
 use Rattle.answers.proofs.Strong.{equation}
 use Rattle.mmu.proofs as fn
 
@@ -29,20 +29,8 @@ Shortcut-is-for = equation (λ κs a e f. refl)
 Shortcut-forget : Strong _ fn.Shortcut.forget.Kinds.ps fn.Shortcut.forget.Kinds.r fn.Shortcut.forget.Reads.Pre fn.Shortcut.forget.Reads.Post
 Shortcut-forget = equation (λ κs a e f. refl)
 
-is-marked : Strong _ fn.is_marked.Kinds.ps fn.is_marked.Kinds.r fn.is_marked.Reads.Pre fn.is_marked.Reads.Post
-is-marked = equation (λ κs a e f. refl)
-
 address-in : Strong _ fn.address_in.Kinds.ps fn.address_in.Kinds.r fn.address_in.Reads.Pre fn.address_in.Reads.Post
 address-in = equation (λ κs a e f. refl)
-
-look-shortcut : Strong _ fn.look_shortcut.Kinds.ps fn.look_shortcut.Kinds.r fn.look_shortcut.Reads.Pre fn.look_shortcut.Reads.Post
-look-shortcut = record { total = λ κs a. tt; determined = λ κs a x y e f p q. (lookups x y (p ∙ sym q), refl) }
-
-look-slot : Strong _ fn.look_slot.Kinds.ps fn.look_slot.Kinds.r fn.look_slot.Reads.Pre fn.look_slot.Reads.Post
-look-slot = record { total = λ κs a. tt; determined = λ κs a x y e f p q. (lookups x y (p ∙ sym q), refl) }
-
-look : Strong _ fn.look.Kinds.ps fn.look.Kinds.r fn.look.Reads.Pre fn.look.Reads.Post
-look = record { total = λ κs a. tt; determined = λ κs a x y e f p q. (lookups x y (p ∙ sym q), refl) }
 
 decide : Strong _ fn.decide.Kinds.ps fn.decide.Kinds.r fn.decide.Reads.Pre fn.decide.Reads.Post
 decide = record { total = λ κs a. tt; determined = λ κs a x y e f p q. (outcomes x y (p ∙ sym q), refl) }
