@@ -3,9 +3,13 @@ use mathlib.Core.Path.{_≡_, refl, ap, _∙_}
 use mathlib.Core.Bool.{Bool, true, false, _&&_}
 use mathlib.Core.List.{List}
 use Prim.Native.Nat.{ℕ}
+use native.Mathlib.Omega.{arith}
+use borrow.Author.Tests.{eqb-true, ne-eqb}
 use lib.ListN.{length}
-use Rattle.answers.proofs.Orders.{by-test, and-left, and-right}
+use Rattle.answers.specs.Bits.{bits}
+use Rattle.answers.proofs.Orders.{by-test}
 use Rattle.csr.specs.Modes.{isM}
+use Rattle.csr.specs.Satp.{isBare}
 use Rattle.csr.specs.declared.PrivMode.{PrivMode}
 use Rattle.system_bus.specs.Memory.{usable}
 use Rattle.access.specs.Asked.{accessOf}
@@ -13,8 +17,8 @@ use Rattle.access.specs.Plain.{plain}
 use Rattle.access.specs.declared.Kind.{Kind}
 use Rattle.access.specs.declared.Kind.the-variants.{Fetch, Load, Store}
 use Rattle.access.proofs.Plain.{plain-allows}
-use Rattle.walk.specs.Walk.{Memory}
-use Rattle.mmu.specs.Cache.{Call, callOf, pageOf, inFrame, bare, unpaged, accepts, marked, serves, live, matches, quickKind, quick, lookShortcut, lookSlot, look}
+use Rattle.walk.specs.Walk.{Memory, walkable}
+use Rattle.mmu.specs.Cache.{Call, callOf, pageOf, inFrame, unpaged, accepts, live, held, matches, quickKind, quick, lookCache, look}
 use Rattle.mmu.specs.declared.Shortcut.{Shortcut}
 use Rattle.mmu.specs.declared.TlbEntry.{TlbEntry}
 use Rattle.mmu.specs.declared.Lookup.the-variants.{Straight, Held, Unusable}
@@ -36,19 +40,21 @@ module _ (ws : List ℕ) (k : Kind) (m : Memory) (a satp : ℕ) (mode : PrivMode
   c = callOf k m a satp mode mstatus
 
   pub unusable-told : usable (length m) ≡ false → Unusable ≡ lookIn ws c
-  unfolding lookIn look lookShortcut accepts
+  unfolding lookIn look accepts
   unusable-told u = rw u
 
   module _ (u : usable (length m) ≡ true) where
-    pub bare-told : bare satp ≡ true → Straight a ≡ lookIn ws c
-    unfolding lookIn look lookShortcut accepts unpaged
+    pub bare-told : isBare satp ≡ true → Straight a ≡ lookIn ws c
+    unfolding lookIn look accepts unpaged
     bare-told b = rw u (by-test (isM (c .access .mode)) (λ t. rw t) (λ t. rw (t, b)))
 
-    module _ (b : bare satp ≡ false) where
-      -- a leaf that is plain is not asked for by M, and allows
+    module _ (w : walkable satp ≡ true) where
+      -- a leaf that is plain is not asked for by M, and allows; and a satp that names tables is not bare
       paged-so : (e : ℕ) → plain k mode mstatus e ≡ true → unpaged (c .access) satp ≡ false
-      unfolding unpaged
-      paged-so e p = rw (plain-allows k mode mstatus e p .0, b)
+      unfolding unpaged walkable
+      paged-so e p =
+          let m = eqb-true (bits 63 60 satp) 8 w
+          in rw (plain-allows k mode mstatus e p .0) (ne-eqb (bits 63 60 satp) 0 (λ z. omega arith))
 
       quick-so : (q : Shortcut) → near k q satp (pageOf a) ≡ true → plain k mode mstatus (q .leaf) ≡ true → quick (c .access) q satp (pageOf a) ≡ true
       unfolding quick accessOf
@@ -58,20 +64,20 @@ module _ (ws : List ℕ) (k : Kind) (m : Memory) (a satp : ℕ) (mode : PrivMode
       unfolding quick accessOf
       slow-so q n = far-slow k (matches q satp (pageOf a)) _ n
 
-      served-so : (e : ℕ) → (plain k mode mstatus e && marked k e) ≡ true → serves (c .access) e ≡ true
-      unfolding serves accessOf
-      served-so e h = rw (plain-allows k mode mstatus e (and-left (plain k mode mstatus e) (marked k e) h) .1) (and-right (plain k mode mstatus e) (marked k e) h)
+      held-so : (y : TlbEntry) (n : ℕ) → live y n (pageOf a) ≡ true → plain k mode mstatus (y .leaf) ≡ true → held y n (c .access) (pageOf a) ≡ true
+      unfolding held
+      held-so y n l p = rw (l, plain-allows k mode mstatus (y .leaf) p .1)
 
       -- on a slot y, an epoch n and a shortcut q
       short-look : (y : TlbEntry) (n : ℕ) (q : Shortcut) → unpaged (c .access) satp ≡ false → quick (c .access) q satp (pageOf a) ≡ true
           → Straight (inFrame (q .frame) a) ≡ look y n q c
-      unfolding look lookShortcut accepts
-      short-look y n q v h = rw (u, v, h)
+      unfolding look lookCache accepts
+      short-look y n q v h = rw (u, v, w, h)
 
       slot-look : (y : TlbEntry) (n : ℕ) (q : Shortcut) → unpaged (c .access) satp ≡ false → quick (c .access) q satp (pageOf a) ≡ false
-          → live y n (pageOf a) ≡ true → serves (c .access) (y .leaf) ≡ true → Held (inFrame (y .frame) a) (y .frame) (y .leaf) ≡ look y n q c
-      unfolding look lookShortcut lookSlot accepts
-      slot-look y n q v h l g = rw (u, v, h, l, g)
+          → held y n (c .access) (pageOf a) ≡ true → Held (inFrame (y .frame) a) (y .frame) (y .leaf) ≡ look y n q c
+      unfolding look lookCache accepts
+      slot-look y n q v h l = rw (u, v, w, h, l)
 
       -- as the code reads them of the words
       read : {i n : ℕ} {y : TlbEntry} {q : Shortcut} → q ≡ shortcutIn ws (shortcutPlace k) → i ≡ slotPlace a → y ≡ slotIn ws i → n ≡ epochIn ws epochAt → look y n q c ≡ lookIn ws c
@@ -85,8 +91,7 @@ module _ (ws : List ℕ) (k : Kind) (m : Memory) (a satp : ℕ) (mode : PrivMode
           ∙ read {i = slotPlace a} e refl refl refl
 
       pub held-told : {i n : ℕ} {y : TlbEntry} {q : Shortcut} → q ≡ shortcutIn ws (shortcutPlace k) → near k q satp (pageOf a) ≡ false
-          → i ≡ slotPlace a → y ≡ slotIn ws i → n ≡ epochIn ws epochAt → live y n (pageOf a) ≡ true → (plain k mode mstatus (y .leaf) && marked k (y .leaf)) ≡ true
+          → i ≡ slotPlace a → y ≡ slotIn ws i → n ≡ epochIn ws epochAt → live y n (pageOf a) ≡ true → plain k mode mstatus (y .leaf) ≡ true
           → Held (inFrame (y .frame) a) (y .frame) (y .leaf) ≡ lookIn ws c
       held-told {i} {n} {y} {q} e f hi hy hn l p =
-          slot-look y n q (paged-so (y .leaf) (and-left (plain k mode mstatus (y .leaf)) (marked k (y .leaf)) p)) (slow-so q f) l (served-so (y .leaf) p)
-          ∙ read {i = i} e hi hy hn
+          slot-look y n q (paged-so (y .leaf) p) (slow-so q f) (held-so y n l p) ∙ read {i = i} e hi hy hn
