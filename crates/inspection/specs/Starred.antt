@@ -20,9 +20,9 @@ use Rattle.access.specs.Asked.{accessOf}
 use Rattle.access.specs.Allowed.{allows}
 use Rattle.access.specs.declared.Kind.the-variants.{Load}
 use Rattle.walk.specs.Entries.{valid, leaf, aligned}
-use Rattle.walk.specs.Walk.{Memory, entry, indexAt, trail, judge}
+use Rattle.walk.specs.Walk.{Memory, entry, indexAt, trail, judge, canonical, walkable, trailOf}
 use Rattle.mmu.specs.Answers.{translation}
-use Rattle.mmu.specs.Cache.{slotCount, newMmu, callOf, unpaged, accepts, freshWalk, freshCount, serves, live, matches, quick, lookShortcut, lookSlot, look, decide, slotAt, shortcutOf, outcomeOn, translate}
+use Rattle.mmu.specs.Cache.{slotCount, newMmu, callOf, unpaged, accepts, freshWalk, freshCount, live, held, matches, quick, lookCache, look, decide, slotAt, shortcutOf, outcomeOn, translate}
 
 pub record Case : Type 0 where
   pub found : Answer ℤ
@@ -91,5 +91,5 @@ starred =
     ∷ []
 
 pub as-asked : map (λ (c : Case). c .found) starred ≡ map (λ (c : Case). c .asked) starred
-unfolding chosen leadingZeros powerUpTo usable valueAt bytesOf valid leaf accessOf allows aligned entry indexAt trail judge newMmu unpaged accepts freshWalk freshCount serves live matches quick lookShortcut lookSlot look decide slotAt shortcutOf outcomeOn translate
+unfolding chosen leadingZeros powerUpTo usable valueAt bytesOf valid leaf accessOf allows aligned entry indexAt trail judge canonical walkable trailOf newMmu unpaged accepts freshWalk freshCount live held matches quick lookCache look decide slotAt shortcutOf outcomeOn translate
 as-asked = refl

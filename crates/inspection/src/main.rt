@@ -123,19 +123,19 @@ fn stores() {
     store_calls(&memory);
 }
 
-// A leaf without D: the shortcut serves a store, the slot does not.
+// A leaf without D: every store faults, by request 07, and nothing is kept of it.
 fn store_calls(memory: &[u8]) {
     let first = Mmu::new().translate_store(memory, 0x123, SATP, PrivMode::S, MSTATUS);
-    translated(b"0x144F at 0x3000, store to 0x123", 0, 0x5123, 3, first);
+    translated(b"0x144F at 0x3000, store to 0x123", 15, 0x123, 3, first);
     let cache = first.mmu;
     let again = cache.translate_store(memory, 0x123, SATP, PrivMode::S, MSTATUS);
-    translated(b"store to 0x123 again", 0, 0x5123, 0, again);
+    translated(b"store to 0x123 again", 15, 0x123, 3, again);
     let cache = again.mmu;
     let other = cache.translate_store(memory, 0x1000, SATP, PrivMode::S, MSTATUS);
-    translated(b"0x184F at 0x3008, store to 0x1000", 0, 0x6000, 3, other);
+    translated(b"0x184F at 0x3008, store to 0x1000", 15, 0x1000, 3, other);
     let cache = other.mmu;
     let walked = cache.translate_store(memory, 0x123, SATP, PrivMode::S, MSTATUS);
-    translated(b"store to 0x123 after that", 0, 0x5123, 3, walked);
+    translated(b"store to 0x123 after that", 15, 0x123, 3, walked);
 }
 
 // A page table entry.

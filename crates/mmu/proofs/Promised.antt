@@ -1,6 +1,6 @@
 -- Demand 3, of the contracts: whatever meets the contracts of the three translations by value keeps the demand. Assumes nothing.
 use mathlib.Core.Path.{_≡_, sym, ap, _∙_}
-use mathlib.Core.Bool.{true}
+use mathlib.Core.Bool.{true, false}
 use mathlib.Core.List.{List}
 use Prim.Native.Nat.{ℕ, _^_, _<_}
 use native.Mathlib.Omega.{arith}
@@ -9,6 +9,7 @@ use denote.Triple.Clauses.{AtExit}
 use borrow.Fn.Kinds.{Out, Dens, endedOf}
 use Rattle.answers.specs.Answer.{done}
 use Rattle.access.specs.Allowed.{Closed}
+use Rattle.walk.specs.Walk.{askable}
 use Rattle.access.specs.declared.Kind.{Kind}
 use Rattle.access.specs.declared.Kind.the-variants.{Fetch, Load, Store}
 use Rattle.mmu.specs.Answers.{translation, withoutReads}
@@ -18,9 +19,10 @@ use Rattle.mmu.specs.declared.Mmu.{Mmu}
 use Rattle.mmu.specs.declared.Translation.{Translation}
 use Rattle.mmu.specs.declared.Translation.the-variants.{At}
 use Rattle.mmu.specs.declared.Translated.{Translated}
-use Rattle.mmu.proofs.Determined.{translations}
+use Rattle.mmu.proofs.Determined.{translations, calls}
 use Rattle.mmu.proofs.Demand.{demand3}
 use Rattle.mmu.proofs.Guarded.{kept-out}
+use Rattle.mmu.proofs.Barred.{turnedAway, barred}
 use Rattle.mmu.proofs.Again.{Again, again-free}
 use Rattle.mmu.proofs as fn
 
@@ -54,6 +56,13 @@ Guarded k Post = (κs : Lfts 1) (a : Args κs) (x : Translated) (e : Exits κs) 
     → (level leaf : ℕ) → LeafOf (call k κs a) level leaf → Closed (call k κs a .access) leaf
     → withoutReads (x .answer) ≡ faulted (call k κs a)
 
+-- WHAT MAY NOT BE ASKED FOR: after any history, an address that is not canonical, or a satp that names no tables, is a page fault without a read, and the
+-- state stays
+abbrev pub Barred : Kind → Contract → Type 0
+Barred k Post = (κs : Lfts 1) (a : Args κs) (x : Translated) (e : Exits κs) → Post κs a x e
+    → (h : List Event) → a .0 ≡ after h → a .1 .1 .0 < 2 ^ 64 → paged (call k κs a) ≡ true → askable (a .1 .1 .0) (a .1 .1 .1 .0) ≡ false
+    → x ≡ record { answer = turnedAway (call k κs a); mmu = a .0 }
+
 -- THE LAST SENTENCE: made again at once after a success, it succeeds in the same frame and reads no table entry
 abbrev pub Free : Kind → Contract → Type 0
 Free k Post = (κs : Lfts 1) (a : Args κs) (x : Translated) (e : Exits κs) → Post κs a x e
@@ -75,6 +84,14 @@ guarded : (s : Mmu) (c : Call) (x : Translation) → translation x ≡ translati
     → (h : List Event) → s ≡ after h → c .address < 2 ^ 64 → paged c ≡ true → Undisturbed h c
     → (level leaf : ℕ) → LeafOf c level leaf → Closed (c .access) leaf → withoutReads x ≡ faulted c
 guarded s c x p h e small g u level leaf at shuts = ap withoutReads (answered s (after h) c x e p) ∙ kept-out slotCount h c level leaf small g u at shuts
+
+turned : (s : Mmu) (c : Call) (x : Translated) → translation (x .answer) ≡ translation (translate slotCount s c .answer) → x .mmu ≡ translate slotCount s c .mmu
+    → (h : List Event) → s ≡ after h → c .address < 2 ^ 64 → paged c ≡ true → askable (c .address) (c .satp) ≡ false → x ≡ record { answer = turnedAway c; mmu = s }
+turned s c x p q h e small g b =
+    calls x (translate slotCount s c) p q
+    ∙ ap (λ (z : Mmu). translate slotCount z c) e
+    ∙ barred slotCount h c small g b
+    ∙ ap (λ (z : Mmu). record { answer = turnedAway c; mmu = z }) (sym e)
 
 free : (s s′ : Mmu) (c d : Call) (x y : Translation) → translation x ≡ translation (translate slotCount s c .answer) → translation y ≡ translation (translate slotCount s′ d .answer)
     → (h : List Event) → s ≡ after h → s′ ≡ translate slotCount s c .mmu → (t : ℕ) → withoutReads x ≡ done t → Again c d → accepts d ≡ true → d .address < 2 ^ 64
@@ -100,6 +117,15 @@ load-guarded κs a x e p = guarded (a .0) (call Load κs a) (x .answer) (p .0)
 
 pub store-guarded : Guarded Store fn.Mmu.translate_store.Reads.Post
 store-guarded κs a x e p = guarded (a .0) (call Store κs a) (x .answer) (p .0)
+
+pub fetch-barred : Barred Fetch fn.Mmu.translate_fetch.Reads.Post
+fetch-barred κs a x e p = turned (a .0) (call Fetch κs a) x (p .0) (p .1)
+
+pub load-barred : Barred Load fn.Mmu.translate_load.Reads.Post
+load-barred κs a x e p = turned (a .0) (call Load κs a) x (p .0) (p .1)
+
+pub store-barred : Barred Store fn.Mmu.translate_store.Reads.Post
+store-barred κs a x e p = turned (a .0) (call Store κs a) x (p .0) (p .1)
 
 pub fetch-free : Free Fetch fn.Mmu.translate_fetch.Reads.Post
 fetch-free κs a x e p κs′ b y f q h s n = free (a .0) (b .0) (call Fetch κs a) (call Fetch κs′ b) (x .answer) (y .answer) (p .0) (q .0) h s (n ∙ p .1)

@@ -1,6 +1,6 @@
 -- Demand 3, of the contracts: whatever meets the contracts of the three translations on words keeps the demand. Assumes nothing.
 use mathlib.Core.Path.{_≡_, refl, sym, ap, _∙_}
-use mathlib.Core.Bool.{true}
+use mathlib.Core.Bool.{true, false}
 use mathlib.Core.List.{List, [], _∷_}
 use Prim.Native.Nat.{ℕ, _^_, _<_}
 use native.Mathlib.Omega.{arith}
@@ -10,21 +10,26 @@ use borrow.Fn.Kinds.{Out, Dens, endedOf}
 use lib.ListN.{getD}
 use Rattle.answers.specs.Answer.{Answer, done, given, isGiven}
 use Rattle.answers.proofs.Determined.{number-positive}
-use Rattle.walk.specs.Walk.{Reached, found, lost}
+use Rattle.walk.specs.Walk.{Reached, found, lost, askable}
+use Rattle.walk.specs.Walked.{pageFault}
 use Rattle.csr.specs.Modes.{modeOf}
+use Rattle.access.specs.Asked.{accessOf}
 use Rattle.access.specs.Allowed.{Closed}
 use Rattle.access.specs.declared.Kind.{Kind}
 use Rattle.access.specs.declared.Kind.the-variants.{Fetch, Load, Store}
-use Rattle.mmu.specs.Answers.{tvalOf, faultOf, translation, withoutReads}
+use Rattle.mmu.specs.Answers.{causeOf, tvalOf, faultOf, translation, withoutReads}
 use Rattle.mmu.specs.Cache.{Call, callOf, frameOf, inFrame, accepts, freshWalk, answerOf}
 use Rattle.mmu.specs.History.{Event, called, paged, Undisturbed, reachedAnswer, freshAnswer, faulted, LeafOf}
+use Rattle.mmu.specs.declared.Outcome.{Outcome}
+use Rattle.mmu.specs.declared.Outcome.the-variants.{Stay}
 use Rattle.mmu.specs.declared.Translation.{Translation}
 use Rattle.mmu.specs.declared.Translation.the-variants.{At, Fault, Refused}
 use Rattle.mmu.proofs.Determined.{code-positive}
 use Rattle.mmu.proofs.Guarded.{fresh-shut}
+use Rattle.mmu.proofs.Barred.{turnedAway}
 use Rattle.mmu.proofs.Again.{Again}
-use Rattle.mmu_words.specs.Words.{newWords, outcomeIn, givenPair, Translates, wordsStep, wordsRun}
-use Rattle.mmu_words.proofs.Demanded.{words-fresh, words-free}
+use Rattle.mmu_words.specs.Words.{newWords, outcomeIn, wordsAfter, givenPair, Translates, wordsStep, wordsRun}
+use Rattle.mmu_words.proofs.Demanded.{words-fresh, words-barred, words-free}
 use Rattle.mmu_words.proofs as fn
 
 -- the three have one signature: the words, the memory, an address, satp, the hart's privilege, mstatus, and two words for the answer
@@ -61,6 +66,13 @@ Guarded k Post = (κs : Lfts 3) (a : Args κs) (r : ℕ) (e : Exits κs) → Pos
     → (level leaf : ℕ) → LeafOf (call k κs a) level leaf → Closed (call k κs a .access) leaf
     → (r ≡ faulted (call k κs a) .number) × (getD (out κs e) 0 0 ≡ a .1 .1 .0)
 
+-- WHAT MAY NOT BE ASKED FOR: after any history, for an address that is not canonical, or under a satp that names no tables, the number is the page fault's,
+-- the words stay, and the answer's two words are the address asked for and no read
+abbrev pub Barred : Kind → Contract → Type 0
+Barred k Post = (κs : Lfts 3) (a : Args κs) (r : ℕ) (e : Exits κs) → Post κs a r e
+    → (h : List Event) → a .0 .now ≡ wordsRun newWords h → a .1 .1 .0 < 2 ^ 64 → paged (call k κs a) ≡ true → askable (a .1 .1 .0) (a .1 .1 .1 .0) ≡ false
+    → (r ≡ pageFault k) × (words κs e ≡ a .0 .now) × (out κs e ≡ a .1 .1 .0 ∷ 0 ∷ [])
+
 -- THE LAST SENTENCE: made again at once after a success, it succeeds in the same frame and reads no table entry
 abbrev pub Free : Kind → Contract → Type 0
 Free k Post = (κs : Lfts 3) (a : Args κs) (r : ℕ) (e : Exits κs) → Post κs a r e
@@ -91,6 +103,11 @@ at-fault Fetch a = refl
 at-fault Load a = refl
 at-fault Store a = refl
 
+its-number : (k : Kind) (a : ℕ) → causeOf (faultOf k a) ≡ pageFault k
+its-number Fetch a = refl
+its-number Load a = refl
+its-number Store a = refl
+
 succeeded : (x : Translation) (old : List ℕ) → translation x .number ≡ 0 → withoutReads x ≡ done (getD (givenPair (translation x .values) old) 0 0)
 succeeded (At a n) old h = refl
 succeeded (Fault f n) old h = absurd (code-positive f h)
@@ -117,6 +134,15 @@ module _ (c : Call) {ws old ws′ new : List ℕ} {r : ℕ} (p : Translates c ws
       let f = fresh small g u
       in let z : freshAnswer c ≡ faulted c = fresh-shut c level leaf at shuts
       in (f .0 ∙ ap (λ (t : Answer ℕ). t .number) z, f .1 ∙ ap (λ (t : Answer ℕ). given (t .values) 0) z ∙ at-fault (c .access .kind) (c .address))
+
+  turned : c .address < 2 ^ 64 → paged c ≡ true → askable (c .address) (c .satp) ≡ false → (r ≡ pageFault (c .access .kind)) × (ws′ ≡ ws) × (new ≡ c .address ∷ 0 ∷ [])
+  turned small g b =
+      let o : outcomeIn ws c ≡ Stay (turnedAway c) = ap (λ (l : List ℕ). outcomeIn l c) s ∙ words-barred h c small g b
+      in (
+        p .answer .number ∙ ap (λ (x : Outcome). translation (answerOf x) .number) o ∙ its-number (c .access .kind) (c .address),
+        p .words ∙ ap (wordsAfter (c .access .kind) (c .address) (c .satp) ws) o,
+        p .answer .out ∙ ap (λ (x : Outcome). givenPair (translation (answerOf x) .values) old) o ∙ ap (λ (x : ℕ). x ∷ 0 ∷ []) (at-fault (c .access .kind) (c .address)),
+      )
 
   free : (d : Call) {ws″ old′ ws‴ new′ : List ℕ} {q : ℕ} → Translates d ws″ old′ q ws‴ new′ → ws″ ≡ ws′
       → r ≡ 0 → Again c d → accepts d ≡ true → d .address < 2 ^ 64 → (q ≡ 0) × (new′ ≡ inFrame (frameOf (getD new 0 0)) (d .address) ∷ 0 ∷ [])
@@ -151,6 +177,18 @@ load-guarded κs a r e p h s = guarded (call Load κs a) p h s
 
 pub store-guarded : Guarded Store fn.translate_store.Reads.Post
 store-guarded κs a r e p h s = guarded (call Store κs a) p h s
+
+pub fetch-barred : Barred Fetch fn.translate_fetch.Reads.Post
+unfolding accessOf
+fetch-barred κs a r e p h s = turned (call Fetch κs a) p h s
+
+pub load-barred : Barred Load fn.translate_load.Reads.Post
+unfolding accessOf
+load-barred κs a r e p h s = turned (call Load κs a) p h s
+
+pub store-barred : Barred Store fn.translate_store.Reads.Post
+unfolding accessOf
+store-barred κs a r e p h s = turned (call Store κs a) p h s
 
 pub fetch-free : Free Fetch fn.translate_fetch.Reads.Post
 fetch-free κs a r e p κs′ b q f p′ h s = free (call Fetch κs a) p h s (call Fetch κs′ b) p′
