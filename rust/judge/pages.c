@@ -1,22 +1,21 @@
 // A machine of its own, without a system: it makes page table entries of every kind, and from every
 // state of its hart that could matter it fetches, loads and stores by them. What came of each it
 // leaves in its memory, and switches off. pages.rs reads that memory, tables included, and asks the
-// library the same.
+// library the same. Before that it writes satp in every mode; satp.rs has what is asked of it.
 //
-// To try more, add a row: to `sites` an address, with the entry that maps it and the satp; to
-// `probes` a way to reach for it. Another bit of the entry or of mstatus is one more count in `begin`.
-// Each goes to the same spot of pages.rs, too. An address that no memory stands behind must not be
-// looked at by `changed`, and ends in an access fault where it is not paged.
+// To try more, add a row: to `sites` an address, with what its entry names; to `sound` an entry that
+// nothing is wrong with, to be spoilt bit by bit; to `probes` a way to reach for the address. Another
+// bit of the entry or of mstatus is one more count. Each goes to the same spot of pages.rs, too.
 
 typedef unsigned long u64;
 
-// The same in pages.rs: where the tables and the answers stand. Memory begins at 0x80000000 and is
-// 16 MiB long. The number of answers is written last.
+// The same in pages.rs: where the tables and the answers stand. The number of answers is written last.
 #define ROOT 0x80100000UL
 #define LEVEL1 0x80101000UL
 #define LEVEL0 0x80102000UL
 #define COUNT (*(volatile u64 *)0x80103000)
-#define ANSWERS ((struct answer *)0x80A00000)
+#define SATPS ((volatile u64 *)0x80104000)
+#define ANSWERS ((struct answer *)0x81000000)
 
 // Where U-mode finds the code of the probes: a copy of it, on a page that has U.
 #define USER 0x80E00000UL
@@ -24,8 +23,15 @@ typedef unsigned long u64;
 // Where the board is switched off.
 #define SWITCH (*(volatile unsigned *)0x100000)
 
+// satp with these tables, and the upper half of the addresses that Sv39 has.
+#define SV39 (8UL << 60 | ROOT >> 12)
+#define HIGH (-1UL << 38)
+
+// The bits of an entry that no leaf and no pointer has.
+#define RESERVED (-1UL << 54)
+
 enum { OFF = 0x5555 };
-enum { V = 1, X = 8, U = 16, A = 64 };
+enum { V = 1, R = 2, W = 4, X = 8, U = 16, A = 64, D = 128 };
 enum { MODE_U = 0, MODE_S = 1, MODE_M = 3 };
 enum { SPP = 8, MPP = 11, MPRV = 17, SUM = 18, MXR = 19 };
 
@@ -35,18 +41,29 @@ struct answer {
     u64 cause, value, page, entry;
 };
 
-// The place `entry` maps `address` by the entry `leaf` with flags added: a page, or a superpage. The
-// address is one of memory itself, and reached where nothing is paged; paged, it leads to `reached`.
-static const struct {
-    u64 satp, address, entry, leaf, reached;
+// The entry for `address` in the table of `level` names `target`. As a leaf it maps a page there, or a
+// superpage. As a pointer it leads to a table there; the entry for the address in that one is user
+// mode's, and maps `beyond`. At level 0 there is none.
+//
+// The first gigabyte of memory begins with the code that the board begins with; as a table that is its
+// first two entries, which are of no use here.
+static const struct site {
+    u64 satp, level, address, target, beyond;
 } sites[] = {
-    {8UL << 60 | ROOT >> 12, 0x80203128, LEVEL0 + 8 * 3, 0x80405000 >> 2, 0x80405128},
-    {8UL << 60 | ROOT >> 12, 0x80605128, LEVEL1 + 8 * 3, 0x80800000 >> 2, 0x80805128},
-    {0, 0x80203128, LEVEL0 + 8 * 3, 0x80405000 >> 2, 0x80405128},
+    {SV39, 0, 0x80203128, 0x80405000, 0},
+    {SV39, 1, 0x80605128, 0x80800000, 0x80407000},
+    {SV39, 2, 0xC0A07128, 0x80000000, 0x80C00000},
+    {SV39, 0, HIGH | 0x80203128, 0x80405000, 0},
+    {SV39, 1, HIGH | 0x80605128, 0x80800000, 0x80407000},
+    {SV39, 2, HIGH | 0xC0A07128, 0x80000000, 0x80C00000},
+    {0, 0, 0x80203128, 0x80405000, 0},
 };
 
+// The flags of entries that nothing is wrong with: a leaf, user mode's leaf, and a pointer.
+static const u64 sound[] = {D | A | X | W | R | V, D | A | U | X | W | R | V, V};
+
 // The code of each probe: it reaches for the address in a1, and what it reads goes to a0. Where a
-// probe has none, the address is jumped to.
+// probe has none, the address is jumped to. The last is no probe: it writes satp.
 asm(".text\n"
     ".balign 4\n"
     "codes:\n"
@@ -54,8 +71,10 @@ asm(".text\n"
     "ecall\n"
     "store: sd a1, (a1)\n"
     "ecall\n"
+    "set_satp: csrw satp, a1\n"
+    "ecall\n"
     "codes_end:\n");
-extern char codes[], load[], store[], codes_end[];
+extern char codes[], load[], store[], set_satp[], codes_end[];
 
 static char *const probes[] = {0, load, store};
 
@@ -71,6 +90,17 @@ static volatile u64 *at(u64 place)
     return (volatile u64 *)place;
 }
 
+static void fence(void)
+{
+    asm volatile("sfence.vma" : : : "memory");
+}
+
+// Memory begins at 0x80000000 and is 32 MiB long.
+static int is_memory(u64 place)
+{
+    return place >> 25 == 0x80000000 >> 25;
+}
+
 // What stands at a place that is reached: lui a0, PAGE and ecall. So the page is in the upper bits of
 // a0's low word, whether that was loaded or executed.
 static u64 content(u64 place)
@@ -78,19 +108,48 @@ static u64 content(u64 place)
     return 0x73UL << 32 | (place & 0xFFFFF000) | 0x537;
 }
 
-static void fence(void)
+static void fill(u64 place)
 {
-    asm volatile("sfence.vma" : : : "memory");
+    if (is_memory(place))
+        *at(place) = content(place);
+    asm volatile("fence.i" : : : "memory");
 }
 
-// The page of a place if its content is another; that is put back.
+// The page of a place in memory if its content is another; that is put back.
 static u64 changed(u64 place)
 {
-    if (*at(place) == content(place))
+    if (!is_memory(place) || *at(place) == content(place))
         return 0;
-    *at(place) = content(place);
-    asm volatile("fence.i" : : : "memory");
+    fill(place);
     return place >> 12;
+}
+
+// The place in a table of this level that has the entry for the address.
+static u64 entry_in(u64 table, u64 level, u64 address)
+{
+    return table + 8 * (address >> (12 + 9 * level) & 511);
+}
+
+static u64 entry_of(const struct site *site)
+{
+    static const u64 tables[] = {LEVEL0, LEVEL1, ROOT};
+    return entry_in(tables[site->level], site->level, site->address);
+}
+
+// Where a page of this level leads the address.
+static u64 inside(u64 page, u64 level, u64 address)
+{
+    return page + (address & ((1UL << (12 + 9 * level)) - 1));
+}
+
+static u64 by_leaf(const struct site *site)
+{
+    return inside(site->target, site->level, site->address);
+}
+
+static u64 by_pointer(const struct site *site)
+{
+    return site->level ? inside(site->beyond, site->level - 1, site->address) : 0;
 }
 
 // A lower mode is entered by SRET, which leaves MPP as it is; MRET would set it. Both clear MPRV, which
@@ -131,17 +190,46 @@ static void prepare(void)
                  :
                  : "r"(-1L), "r"(0x1FL));
 
-    *at(ROOT + 8 * 2) = LEVEL1 >> 2 | V;
-    *at(LEVEL1 + 8 * 0) = 0x80000000UL >> 2 | A | X | V;
-    *at(LEVEL1 + 8 * 1) = LEVEL0 >> 2 | V;
-    *at(LEVEL1 + 8 * 7) = USER >> 2 | A | U | X | V;
+    *at(entry_in(ROOT, 2, 0x80000000)) = LEVEL1 >> 2 | V;
+    *at(entry_in(ROOT, 2, HIGH | 0x80000000)) = LEVEL1 >> 2 | V;
+    *at(entry_in(LEVEL1, 1, 0x80000000)) = 0x80000000UL >> 2 | A | X | V;
+    *at(entry_in(LEVEL1, 1, 0x80200000)) = LEVEL0 >> 2 | V;
+    *at(entry_in(LEVEL1, 1, USER)) = USER >> 2 | A | U | X | V;
     for (long i = 0; i < codes_end - codes; i++)
         ((volatile char *)USER)[i] = codes[i];
+
     for (unsigned i = 0; i < sizeof sites / sizeof *sites; i++) {
-        *at(sites[i].address) = content(sites[i].address);
-        *at(sites[i].reached) = content(sites[i].reached);
+        const struct site *site = &sites[i];
+        *at(entry_of(site)) = site->target >> 2 | sound[0];
+        if (site->level)
+            *at(entry_in(site->target, site->level - 1, site->address)) =
+                site->beyond >> 2 | sound[1];
+        fill(site->address);
+        fill(by_leaf(site));
+        fill(by_pointer(site));
     }
-    asm volatile("fence.i" : : : "memory");
+}
+
+// What satp reads after a write in each mode, made by S-mode and by M-mode. It doesn't matter if S-mode
+// finds no more code then: that traps, as the call does.
+static void write_satp(void)
+{
+    static const u64 modes[] = {MODE_S, MODE_M};
+    static const u64 before[] = {0, SV39, SV39 | 0x5A5AUL << 44};
+    static const u64 rest[] = {0, ROOT >> 12, 0xFFFFUL << 44 | ROOT >> 12, -1UL >> 4};
+    volatile u64 *next = SATPS;
+
+    for (int m = 0; m < 2; m++)
+        for (int b = 0; b < 3; b++)
+            for (u64 written = 0; written < 16; written++)
+                for (int r = 0; r < 4; r++) {
+                    u64 satp;
+                    asm volatile("csrw satp, %0" : : "r"(before[b]) : "memory");
+                    fence();
+                    attempt(modes[m], 0, (u64)set_satp, written << 60 | rest[r]);
+                    asm volatile("csrr %0, satp" : "=r"(satp));
+                    *next++ = satp;
+                }
 }
 
 // Where a probe begins that is made in this mode.
@@ -152,46 +240,70 @@ static u64 start(char *code, u64 mode, u64 address)
     return mode == MODE_U ? USER + (code - codes) : (u64)code;
 }
 
-void begin(void)
+// Every probe of the address from every state, with this entry at the site: once with a fence before
+// each, and once only where the entry was changed, since what the hart is allowed follows its mode and
+// its mstatus at once.
+static struct answer *probe(struct answer *next, const struct site *site, u64 address, u64 entry)
 {
     static const u64 modes[] = {MODE_U, MODE_S, MODE_M};
+    volatile u64 *place = at(entry_of(site));
+
+    for (int round = 0; round < 2; round++) {
+        *place = entry;
+        fence();
+
+        for (u64 state = 0; state < 3 * 2 * 3 * 2 * 2; state++) {
+            u64 mode = modes[state / 24], mprv = state / 12 % 2;
+            u64 mstatus = mprv << MPRV | modes[state / 4 % 3] << MPP |
+                          (state / 2 % 2) << SUM | (state % 2) << MXR;
+            if (mprv && mode != MODE_M)
+                continue;
+
+            for (unsigned p = 0; p < sizeof probes / sizeof *probes; p++) {
+                if (round == 0)
+                    fence();
+                *next = attempt(mode, mstatus, start(probes[p], mode, address), address);
+                next->page |= changed(address) | changed(by_leaf(site)) | changed(by_pointer(site));
+                next++->entry = *place;
+            }
+        }
+    }
+    return next;
+}
+
+// The bits that are wrong with an entry as soon as one of them is another: V, those reserved, and of a
+// superpage the low ones of its page number.
+static u64 strict_bits(const struct site *site, u64 entry)
+{
+    u64 low = ((1UL << 9 * site->level) - 1) << 10;
+    return RESERVED | (entry & R ? low : 0) | V;
+}
+
+void begin(void)
+{
     struct answer *next = ANSWERS;
 
     prepare();
-    for (unsigned s = 0; s < sizeof sites / sizeof *sites; s++) {
-        u64 address = sites[s].address;
-        asm volatile("csrw satp, %0" : : "r"(sites[s].satp) : "memory");
+    write_satp();
+    for (unsigned i = 0; i < sizeof sites / sizeof *sites; i++) {
+        const struct site *site = &sites[i];
+        asm volatile("csrw satp, %0" : : "r"(site->satp) : "memory");
 
         // R, W, X and U stand side by side, and so do A and D.
         for (u64 flags = 0; flags < 64; flags++) {
-            u64 entry = sites[s].leaf | (flags >> 4) << 6 | (flags & 15) << 1 | V;
+            u64 entry = site->target >> 2 | (flags >> 4) << 6 | (flags & 15) << 1 | V;
+            next = probe(next, site, site->address, entry);
+        }
 
-            // Once with a fence before each probe, and once only where the entry was changed: what
-            // the hart is allowed follows its mode and its mstatus at once.
-            for (int round = 0; round < 2; round++) {
-                *at(sites[s].entry) = entry;
-                fence();
-
-                for (u64 state = 0; state < 3 * 2 * 3 * 2 * 2; state++) {
-                    u64 mode = modes[state / 24], mprv = state / 12 % 2;
-                    u64 mstatus = mprv << MPRV | modes[state / 4 % 3] << MPP |
-                                  (state / 2 % 2) << SUM | (state % 2) << MXR;
-                    if (mprv && mode != MODE_M)
-                        continue;
-
-                    for (unsigned p = 0; p < sizeof probes / sizeof *probes; p++) {
-                        if (round == 0)
-                            fence();
-                        *next = attempt(mode, mstatus, start(probes[p], mode, address), address);
-                        next->page |= changed(address) | changed(sites[s].reached);
-                        next->entry = *at(sites[s].entry);
-                        if (next++->entry != entry) {
-                            *at(sites[s].entry) = entry;
-                            fence();
-                        }
-                    }
-                }
-            }
+        // One bit of the entry is wrong, or one of those that the address has copies of.
+        for (unsigned s = 0; s < sizeof sound / sizeof *sound; s++) {
+            u64 entry = site->target >> 2 | sound[s];
+            for (u64 bit = 1; bit; bit <<= 1)
+                if (bit & strict_bits(site, entry))
+                    next = probe(next, site, site->address, entry ^ bit);
+            for (u64 bit = 1; bit; bit <<= 1)
+                if (bit & HIGH)
+                    next = probe(next, site, site->address ^ bit, entry);
         }
     }
     COUNT = next - ANSWERS;
