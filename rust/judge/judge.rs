@@ -1,5 +1,5 @@
 //! Compares the library's M and A arithmetic with that of an outside RISC-V processor, what its CSR
-//! file shows S-mode of mstatus, and where its translations lead.
+//! file shows S-mode of mstatus and takes of satp, and where its translations lead.
 //!
 //! `judge operands FILE` writes the operand pairs for judge.c to execute; `judge compare OPERANDS
 //! ANSWERS` holds its answers to the library's; `judge sstatus ANSWERS` does so with those of

@@ -1,15 +1,18 @@
 // A machine of its own, without a system: it makes page table entries of every kind, and from every
 // state of its hart that could matter it fetches, loads and stores by them. What came of each it
 // leaves in its memory, and switches off. pages.rs reads that memory, tables included, and asks the
-// library the same. Before that it writes satp in every mode; satp.rs has what is asked of it.
+// library the same. Before that it writes satp in every mode.
 //
-// To try more, add a row: to `sites` an address, with what its entry names; to `sound` an entry that
-// nothing is wrong with, to be spoilt bit by bit; to `probes` a way to reach for the address. Another
-// bit of the entry or of mstatus is one more count. Each goes to the same spot of pages.rs, too.
+// To try more, add a row: to `sites` an address, with what its entry names; to `sound` the flags of an
+// entry that nothing is wrong with, which is then spoilt bit by bit; to `probes` a way to reach for the
+// address. Another bit of the entry or of mstatus is one more count. Each goes to the same spot of
+// pages.rs or of the files in pages/, too.
 
 typedef unsigned long u64;
 
-// The same in pages.rs: where the tables and the answers stand. The number of answers is written last.
+#define LENGTH(list) (sizeof(list) / sizeof *(list))
+
+// The same in pages/: where the tables and the answers stand. The number of answers is written last.
 #define ROOT 0x80100000UL
 #define LEVEL1 0x80101000UL
 #define LEVEL0 0x80102000UL
@@ -23,7 +26,8 @@ typedef unsigned long u64;
 // Where the board is switched off.
 #define SWITCH (*(volatile unsigned *)0x100000)
 
-// satp with these tables, and the upper half of the addresses that Sv39 has.
+// satp with these tables; and the bits of an address that are copies of one another, which are set in
+// the upper half of the addresses.
 #define SV39 (8UL << 60 | ROOT >> 12)
 #define HIGH (-1UL << 38)
 
@@ -41,12 +45,12 @@ struct answer {
     u64 cause, value, page, entry;
 };
 
-// The entry for `address` in the table of `level` names `target`. As a leaf it maps a page there, or a
-// superpage. As a pointer it leads to a table there; the entry for the address in that one is user
-// mode's, and maps `beyond`. At level 0 there is none.
+// The entry for `address` in the table of `level` names `target`. As a leaf it maps the page there, or
+// the superpage. As a pointer it leads to a table there, and the entry for the address in that one maps
+// `beyond`, for user mode; at level 0 there is none.
 //
-// The first gigabyte of memory begins with the code that the board begins with; as a table that is its
-// first two entries, which are of no use here.
+// The one gigapage in memory begins where the board does. Taken for a table, that code is the first two
+// of its entries, which are not asked for.
 static const struct site {
     u64 satp, level, address, target, beyond;
 } sites[] = {
@@ -95,7 +99,8 @@ static void fence(void)
     asm volatile("sfence.vma" : : : "memory");
 }
 
-// Memory begins at 0x80000000 and is 32 MiB long.
+// Memory begins at 0x80000000 and is 32 MiB long. An address elsewhere ends in an access fault where it
+// is not paged.
 static int is_memory(u64 place)
 {
     return place >> 25 == 0x80000000 >> 25;
@@ -108,23 +113,17 @@ static u64 content(u64 place)
     return 0x73UL << 32 | (place & 0xFFFFF000) | 0x537;
 }
 
-static void fill(u64 place)
-{
-    if (is_memory(place))
-        *at(place) = content(place);
-    asm volatile("fence.i" : : : "memory");
-}
-
-// The page of a place in memory if its content is another; that is put back.
-static u64 changed(u64 place)
+// The page of a place in memory if its content was another, which is mended; else 0.
+static u64 mend(u64 place)
 {
     if (!is_memory(place) || *at(place) == content(place))
         return 0;
-    fill(place);
+    *at(place) = content(place);
+    asm volatile("fence.i" : : : "memory");
     return place >> 12;
 }
 
-// The place in a table of this level that has the entry for the address.
+// Where a table of this level has the entry for the address.
 static u64 entry_in(u64 table, u64 level, u64 address)
 {
     return table + 8 * (address >> (12 + 9 * level) & 511);
@@ -142,14 +141,13 @@ static u64 inside(u64 page, u64 level, u64 address)
     return page + (address & ((1UL << (12 + 9 * level)) - 1));
 }
 
-static u64 by_leaf(const struct site *site)
+// The page that was reached at a site, if that can be seen there; all that could be is mended.
+static u64 mend_all(const struct site *site, u64 address)
 {
-    return inside(site->target, site->level, site->address);
-}
-
-static u64 by_pointer(const struct site *site)
-{
-    return site->level ? inside(site->beyond, site->level - 1, site->address) : 0;
+    u64 page = mend(address) | mend(inside(site->target, site->level, address));
+    if (site->level)
+        page |= mend(inside(site->beyond, site->level - 1, address));
+    return page;
 }
 
 // A lower mode is entered by SRET, which leaves MPP as it is; MRET would set it. Both clear MPRV, which
@@ -198,20 +196,19 @@ static void prepare(void)
     for (long i = 0; i < codes_end - codes; i++)
         ((volatile char *)USER)[i] = codes[i];
 
-    for (unsigned i = 0; i < sizeof sites / sizeof *sites; i++) {
+    for (unsigned i = 0; i < LENGTH(sites); i++) {
         const struct site *site = &sites[i];
         *at(entry_of(site)) = site->target >> 2 | sound[0];
-        if (site->level)
-            *at(entry_in(site->target, site->level - 1, site->address)) =
-                site->beyond >> 2 | sound[1];
-        fill(site->address);
-        fill(by_leaf(site));
-        fill(by_pointer(site));
+        if (site->level) {
+            u64 next = entry_in(site->target, site->level - 1, site->address);
+            *at(next) = site->beyond >> 2 | sound[1];
+        }
+        mend_all(site, site->address);
     }
 }
 
-// What satp reads after a write in each mode, made by S-mode and by M-mode. It doesn't matter if S-mode
-// finds no more code then: that traps, as the call does.
+// What satp reads after a write, by S-mode and by M-mode, of each mode of it. If S-mode then finds no
+// more code, that is a trap like the call that would follow.
 static void write_satp(void)
 {
     static const u64 modes[] = {MODE_S, MODE_M};
@@ -219,14 +216,14 @@ static void write_satp(void)
     static const u64 rest[] = {0, ROOT >> 12, 0xFFFFUL << 44 | ROOT >> 12, -1UL >> 4};
     volatile u64 *next = SATPS;
 
-    for (int m = 0; m < 2; m++)
-        for (int b = 0; b < 3; b++)
-            for (u64 written = 0; written < 16; written++)
-                for (int r = 0; r < 4; r++) {
+    for (unsigned m = 0; m < LENGTH(modes); m++)
+        for (unsigned b = 0; b < LENGTH(before); b++)
+            for (u64 mode = 0; mode < 16; mode++)
+                for (unsigned r = 0; r < LENGTH(rest); r++) {
                     u64 satp;
                     asm volatile("csrw satp, %0" : : "r"(before[b]) : "memory");
                     fence();
-                    attempt(modes[m], 0, (u64)set_satp, written << 60 | rest[r]);
+                    attempt(modes[m], 0, (u64)set_satp, mode << 60 | rest[r]);
                     asm volatile("csrr %0, satp" : "=r"(satp));
                     *next++ = satp;
                 }
@@ -241,9 +238,9 @@ static u64 start(char *code, u64 mode, u64 address)
 }
 
 // Every probe of the address from every state, with this entry at the site: once with a fence before
-// each, and once only where the entry was changed, since what the hart is allowed follows its mode and
-// its mstatus at once.
-static struct answer *probe(struct answer *next, const struct site *site, u64 address, u64 entry)
+// each, and once only after the entry was written, since what the hart is allowed follows its mode and
+// its mstatus at once. Gives where the next answer goes.
+static struct answer *try(struct answer *next, const struct site *site, u64 address, u64 entry)
 {
     static const u64 modes[] = {MODE_U, MODE_S, MODE_M};
     volatile u64 *place = at(entry_of(site));
@@ -259,11 +256,11 @@ static struct answer *probe(struct answer *next, const struct site *site, u64 ad
             if (mprv && mode != MODE_M)
                 continue;
 
-            for (unsigned p = 0; p < sizeof probes / sizeof *probes; p++) {
+            for (unsigned p = 0; p < LENGTH(probes); p++) {
                 if (round == 0)
                     fence();
                 *next = attempt(mode, mstatus, start(probes[p], mode, address), address);
-                next->page |= changed(address) | changed(by_leaf(site)) | changed(by_pointer(site));
+                next->page |= mend_all(site, address);
                 next++->entry = *place;
             }
         }
@@ -271,8 +268,8 @@ static struct answer *probe(struct answer *next, const struct site *site, u64 ad
     return next;
 }
 
-// The bits that are wrong with an entry as soon as one of them is another: V, those reserved, and of a
-// superpage the low ones of its page number.
+// The bits of a sound entry that must be as they are: V, of a superpage the low ones of its page number,
+// and those reserved.
 static u64 strict_bits(const struct site *site, u64 entry)
 {
     u64 low = ((1UL << 9 * site->level) - 1) << 10;
@@ -285,25 +282,25 @@ void begin(void)
 
     prepare();
     write_satp();
-    for (unsigned i = 0; i < sizeof sites / sizeof *sites; i++) {
+    for (unsigned i = 0; i < LENGTH(sites); i++) {
         const struct site *site = &sites[i];
         asm volatile("csrw satp, %0" : : "r"(site->satp) : "memory");
 
         // R, W, X and U stand side by side, and so do A and D.
         for (u64 flags = 0; flags < 64; flags++) {
             u64 entry = site->target >> 2 | (flags >> 4) << 6 | (flags & 15) << 1 | V;
-            next = probe(next, site, site->address, entry);
+            next = try(next, site, site->address, entry);
         }
 
-        // One bit of the entry is wrong, or one of those that the address has copies of.
-        for (unsigned s = 0; s < sizeof sound / sizeof *sound; s++) {
+        // One bit of the entry is wrong, or one of those of the address that are copies.
+        for (unsigned s = 0; s < LENGTH(sound); s++) {
             u64 entry = site->target >> 2 | sound[s];
             for (u64 bit = 1; bit; bit <<= 1)
                 if (bit & strict_bits(site, entry))
-                    next = probe(next, site, site->address, entry ^ bit);
+                    next = try(next, site, site->address, entry ^ bit);
             for (u64 bit = 1; bit; bit <<= 1)
                 if (bit & HIGH)
-                    next = probe(next, site, site->address ^ bit, entry);
+                    next = try(next, site, site->address ^ bit, entry);
         }
     }
     COUNT = next - ANSWERS;

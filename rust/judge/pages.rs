@@ -1,6 +1,7 @@
 //! Holds what fetches, loads and stores came to on the outside processor, by page table entries of
 //! every kind and from every state of its hart, to what the library translates.
 
+mod guest;
 mod satp;
 mod sites;
 
@@ -12,11 +13,8 @@ use leavnnjar::mmu::{Mmu, Translation, TranslationError};
 
 use crate::check;
 use crate::common::{self, Tally, product};
-use sites::{Form, POINTER, POINTER_UAD, SITES, Site};
-
-// The same in pages.c, as are the probes and the order of the counts: where the answers stand.
-const COUNT: u64 = 0x8010_3000;
-const ANSWERS: u64 = 0x8100_0000;
+use guest::{Memory, Outcome, Round};
+use sites::{Form, POINTER_UAD, Site};
 
 type Translate =
     fn(&mut Mmu, u64, u64, PrivMode, u64, &[u8]) -> Result<Translation, TranslationError>;
@@ -56,109 +54,8 @@ fn states() -> Vec<State> {
     states
 }
 
-/// The guest's memory as it left it. The guest has it at 0x8000_0000, and the library takes an address
-/// modulo the memory's length, so both find the same bytes.
-struct Memory(Vec<u8>);
-
-impl Memory {
-    const BASE: u64 = 0x8000_0000;
-    const LENGTH: usize = 32 << 20;
-
-    fn contains(address: u64) -> bool {
-        (Self::BASE..Self::BASE + Self::LENGTH as u64).contains(&address)
-    }
-
-    /// The words from this address on.
-    fn words(&self, address: u64) -> impl Iterator<Item = u64> {
-        let word = |eight: &[u8]| u64::from_le_bytes(eight.try_into().expect("eight bytes"));
-        self.0[(address - Self::BASE) as usize..]
-            .chunks(8)
-            .map(word)
-    }
-
-    fn write(&mut self, address: u64, word: u64) {
-        let offset = (address - Self::BASE) as usize;
-        self.0[offset..offset + 8].copy_from_slice(&word.to_le_bytes());
-    }
-}
-
-/// What the guest wrote down of a probe: cause and value of the trap by which it came back, the page
-/// that it reached, and the entry afterwards.
-type Answer = [u64; 4];
-
-fn answers(memory: &Memory) -> Vec<Answer> {
-    let count = memory.words(COUNT).next().expect("the number of answers");
-    let mut words = memory.words(ANSWERS);
-    let mut word = || words.next().expect("room for the answers");
-    (0..count)
-        .map(|_| [word(), word(), word(), word()])
-        .collect()
-}
-
-/// What came of reaching for an address: where it led, or the cause and the value of the trap.
-type Outcome = Result<u64, (u64, u64)>;
-
-/// The outcome that an answer tells of.
-fn outcome(form: &Form, mode: PrivMode, [cause, value, page, entry]: Answer) -> Outcome {
-    assert_eq!(entry, form.entry, "this processor leaves A and D alone");
-    let address = form.address;
-    if cause == 8 + mode as u64 {
-        // It ended by a call, from its own mode: nothing was refused.
-        Ok((page << 12) | (address & 0xFFF))
-    } else if matches!(cause, 1 | 5 | 7) && value == address && !Memory::contains(address) {
-        // An access fault: it was not paged, and no memory stands behind it.
-        Ok(address)
-    } else {
-        Err((cause, value))
-    }
-}
-
-/// What came of every case at one entry, on the outside processor.
-struct Round<'a> {
-    site: &'a Site,
-    form: Form,
-    /// Whether there was a fence before each.
-    fenced: bool,
-    outcomes: Vec<Outcome>,
-}
-
 /// A case is a state and a probe from it.
-type Case = (State, Probe);
-
-fn rounds<'a>(memory: &Memory, cases: &[Case]) -> Vec<Round<'a>> {
-    let mut answers = answers(memory).into_iter();
-    let mut rounds = Vec::new();
-    for site in &SITES {
-        for (form, fenced) in product(&site.forms(), &[true, false]) {
-            let mut next = || answers.next().expect("an answer to each trial");
-            let outcome = |&((mode, _), _): &Case| outcome(&form, mode, next());
-            let outcomes = cases.iter().map(outcome).collect();
-            rounds.push(Round {
-                site,
-                form,
-                fenced,
-                outcomes,
-            });
-        }
-    }
-    assert!(answers.next().is_none(), "no answer is left over");
-    rounds
-}
-
-impl Round<'_> {
-    /// The outcomes that the library is held to. The outside processor refuses a pointer with U, A or
-    /// D, as Volume II does. Request 07 does not name it, so such a pointer counts as without them.
-    fn counted<'a>(&'a self, rounds: &'a [Self]) -> &'a [Outcome] {
-        let without = |other: &&Self| {
-            other.form.kind == POINTER && other.site == self.site && other.fenced == self.fenced
-        };
-        let round = match self.form.kind {
-            POINTER_UAD => rounds.iter().find(without).expect("it was tried"),
-            _ => self,
-        };
-        &round.outcomes
-    }
-}
+pub type Case = (State, Probe);
 
 /// One case at one entry, and what the library is held to.
 struct Trial<'a> {
@@ -172,7 +69,7 @@ impl Trial<'_> {
     /// What the library makes of it at this address.
     fn ours(&self, address: u64, mmu: &mut Mmu, memory: &Memory) -> Outcome {
         let ((mode, mstatus), (_, translate)) = self.case;
-        match translate(mmu, address, self.site.satp, mode, mstatus, &memory.0) {
+        match translate(mmu, address, self.site.satp, mode, mstatus, memory.bytes()) {
             Ok(translation) => Ok(translation.address),
             Err(TranslationError::Fault { fault, .. }) => Err((fault.mcause(), fault.tval())),
             Err(TranslationError::Refused(refusal)) => panic!("{refusal}"),
@@ -191,12 +88,11 @@ impl Trial<'_> {
 /// The library is asked in three ways: on a new state; in the guest's order on one state, which is
 /// flushed where the guest fenced; and on a state that was flushed and then asked another case, each
 /// after each, since what is kept must not be served where it is not allowed. That other one is asked at
-/// the site's own address: what is kept of it must not be served to one that is not made of copies.
+/// the site's own address, also where the trial is at one that is refused.
 pub fn compare(memory: Vec<u8>) -> ExitCode {
-    assert_eq!(memory.len(), Memory::LENGTH, "the whole memory");
-    let mut memory = Memory(memory);
+    let mut memory = Memory::new(memory);
     let cases = product(&states(), &PROBES);
-    let rounds = rounds(&memory, &cases);
+    let rounds = guest::rounds(&memory, &cases);
 
     let mut fresh = Tally::new("new state");
     let mut in_order = Tally::new("in order");
@@ -240,7 +136,8 @@ pub fn compare(memory: Vec<u8>) -> ExitCode {
     common::summary(&[fresh, in_order, in_pairs, satp::compare(&memory)])
 }
 
-/// Prints what came of the trials of each kind on the outside processor.
+/// Prints what came of the trials of each kind on the outside processor, and in how many of them the
+/// library is held to something else.
 fn print_account(rounds: &[Round]) {
     let column = |address, outcome| match outcome {
         Ok(reached) if reached == address => 0,
@@ -251,10 +148,12 @@ fn print_account(rounds: &[Round]) {
         Err(_) => 5,
     };
     let mut account = BTreeMap::<&str, [usize; 6]>::new();
-    for Round { form, outcomes, .. } in rounds {
-        let counts = account.entry(form.kind).or_default();
-        for &outcome in outcomes {
-            counts[column(form.address, outcome)] += 1;
+    let mut departs = 0;
+    for round in rounds {
+        let counts = account.entry(round.form.kind).or_default();
+        for (&outcome, counted) in round.outcomes.iter().zip(round.counted(rounds)) {
+            counts[column(round.form.address, outcome)] += 1;
+            departs += (outcome != *counted) as usize;
         }
     }
 
@@ -270,5 +169,5 @@ fn print_account(rounds: &[Round]) {
         row(kind, counts.map(|count| count.to_string()));
     }
     let made: usize = account.values().flatten().sum();
-    println!("{made} trials");
+    println!("{made} trials; in {departs} a {POINTER_UAD} is refused that request 07 lets pass");
 }

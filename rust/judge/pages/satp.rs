@@ -1,10 +1,10 @@
 //! Holds what satp read after each write on the outside processor, which has Sv39 alone, to what the
-//! library's does.
+//! library's reads. That satp has another mode comes about on neither.
 
 use leavnnjar::Refusal;
 use leavnnjar::csr::{Csr, PrivMode, SATP};
 
-use super::Memory;
+use super::guest::Memory;
 use super::sites::{ROOT, SV39};
 use crate::check;
 use crate::common::{Tally, product};

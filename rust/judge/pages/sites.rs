@@ -70,8 +70,8 @@ impl Site {
         table + 8 * ((self.address >> (12 + 9 * self.level)) & 511)
     }
 
-    /// Every combination of flags; and then each sound entry with one bit of it wrong, or one of those
-    /// that the address has copies of.
+    /// Every combination of flags; then each sound entry with one bit of it wrong, or one of those of
+    /// the address that are copies.
     pub fn forms(&self) -> Vec<Form> {
         let form = |kind, address, flags| Form {
             kind,
@@ -94,8 +94,8 @@ impl Site {
         forms
     }
 
-    /// The bits that are wrong with an entry as soon as one of them is another: V, of a superpage the
-    /// low ones of its page number, and those reserved.
+    /// The bits of a sound entry that must be as they are: V, of a superpage the low ones of its page
+    /// number, and those reserved.
     fn strict_bits(&self, flags: u64) -> impl Iterator<Item = (&'static str, u64)> {
         let low = ((1 << (9 * self.level)) - 1) << 10;
         let masks = [
