@@ -3,7 +3,7 @@
 #
 # It must fault where A or D is clear, as request 07 has it. That of Debian 12 sets them, and has no option for the other; so the one of
 # the backports suite is taken. It is unpacked into target/, with those of its libraries that the system lacks, and nothing is installed.
-# Where it can't be had, nothing is judged.
+# Where it can't be had, the judge says so and fails.
 
 beside=$top/target/qemu
 system=$beside/unpacked/usr/bin/qemu-system-riscv64
