@@ -22,6 +22,7 @@ type Translate =
 /// A way to reach for an address: its name, and the call.
 type Probe = (&'static str, Translate);
 
+// In the order of pages.c.
 const PROBES: [Probe; 3] = [
     ("fetch", Mmu::translate_fetch),
     ("load", Mmu::translate_load),
@@ -55,7 +56,7 @@ fn states() -> Vec<State> {
 }
 
 /// A case is a state and a probe from it.
-pub type Case = (State, Probe);
+type Case = (State, Probe);
 
 /// One case at one entry, and what the library is held to.
 struct Trial<'a> {
