@@ -111,6 +111,10 @@ impl State {
         if !call.is_paged() {
             return Answer::found(call.address, 0);
         }
+        // Before anything that is kept: a slot has no satp, and would serve.
+        if !call.is_by_sv39() {
+            return Answer::fault(call, 0);
+        }
 
         if let Some(kept) = self.shortcut(call)
             && call.is_allowed_by(kept.leaf)
@@ -118,7 +122,7 @@ impl State {
             return Answer::found(kept.address(call), 0);
         }
         if let Some(kept) = self.slot(call)
-            && call.is_served_by(kept.leaf)
+            && call.is_allowed_by(kept.leaf)
         {
             self.point(call, kept);
             return Answer::found(kept.address(call), 0);

@@ -1,5 +1,6 @@
-//! A call and for whom it is made: the effective privilege, and what a leaf entry allows it
-//! (Volume II, "Supervisor Address Translation" and "Memory Privilege in mstatus Register").
+//! A call and for whom it is made: the effective privilege, whether satp pages it, and what a leaf entry
+//! allows it (Volume II, "Virtual Address Translation Process" and "Memory Privilege in mstatus
+//! Register"). Neither A nor D is ever set here: where one is missing the access is not allowed.
 
 /// What an address is translated for. `translate_readable` is a load that uses no state.
 #[derive(Clone, Copy, Debug, PartialEq, Eq)]
@@ -40,7 +41,12 @@ pub const R: u64 = 1 << 1;
 pub const W: u64 = 1 << 2;
 pub const X: u64 = 1 << 3;
 pub const U: u64 = 1 << 4;
+pub const A: u64 = 1 << 6;
 pub const D: u64 = 1 << 7;
+
+// Modes of satp, its bits 63 to 60. There are no others.
+pub const BARE: u64 = 0;
+pub const SV39: u64 = 8;
 
 /// All that is asked of a translation, but for the state and the memory.
 #[derive(Clone, Copy, Debug)]
@@ -64,7 +70,12 @@ impl Call {
     }
 
     pub fn is_paged(self) -> bool {
-        self.mode() != Mode::M && self.satp >> 60 != 0
+        self.mode() != Mode::M && self.satp >> 60 != BARE
+    }
+
+    /// Whether a paged call has tables to go by: satp's mode is one that there is.
+    pub fn is_by_sv39(self) -> bool {
+        self.satp >> 60 == SV39
     }
 
     /// The virtual page.
@@ -72,7 +83,8 @@ impl Call {
         self.address >> 12
     }
 
-    /// Whether a leaf entry allows the access, by the bits in force now. M comes to none.
+    /// Whether a leaf entry allows the access, by the bits in force now. It is asked alike of a leaf that
+    /// a walk comes to and of one that is kept. M comes to none.
     pub fn is_allowed_by(self, leaf: u64) -> bool {
         let has = |bit: u64| leaf & bit != 0;
         let is_set = |bit: u64| self.mstatus & bit != 0;
@@ -85,13 +97,8 @@ impl Call {
         let for_kind = match self.kind {
             Kind::Fetch => has(X),
             Kind::Load | Kind::Readable => has(R) || (is_set(MXR) && has(X)),
-            Kind::Store => has(W),
+            Kind::Store => has(W) && has(D),
         };
-        for_mode && for_kind
-    }
-
-    /// Whether a slot with this leaf entry serves it: a store also needs D.
-    pub fn is_served_by(self, leaf: u64) -> bool {
-        self.is_allowed_by(leaf) && (self.kind != Kind::Store || leaf & D != 0)
+        for_mode && for_kind && has(A)
     }
 }

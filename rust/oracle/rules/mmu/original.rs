@@ -1,12 +1,15 @@
 //! What of this the original still decides, and its answer there.
 //!
 //! It knows no privilege: it never takes an access for one of M, and a leaf allows a fetch by X, a load
-//! by R, a store by W. So it no longer decides a call that is M's where satp pages, nor one that comes
-//! to a leaf which allows by one rule what it does not by the other. Nor does it keep a shortcut's leaf
-//! entry: of the state, those two words are never its own to decide.
+//! by R, a store by W. Nor does it know a reserved form: it walks under every mode and for every address,
+//! and whatever of an entry is neither V nor a permission is nothing to it, but D in a slot. So it no
+//! longer decides a call that is M's where satp pages, nor one by a mode that is none; nor one that comes to
+//! a leaf which serves it by one rule and not by the other; nor one whose walk finds by one rule and faults
+//! by the other, or reads more by one than by the other. Nor does it keep a shortcut's leaf entry: of the
+//! state, those two words are never its own to decide.
 
 use super::call::{D, R, W, X};
-use super::walk::walk;
+use super::walk::{follow, walk};
 use super::{Answer, Call, Kind, Mode, State};
 use crate::counted::Counted;
 use crate::mmu::{Mmu, MmuFault};
@@ -17,7 +20,7 @@ pub fn decides(state: &State, call: Call, memory: &[u8]) -> bool {
     if call.satp >> 60 == 0 {
         return true;
     }
-    if call.mode() == Mode::M {
+    if call.mode() == Mode::M || !call.is_by_sv39() {
         return false;
     }
 
@@ -26,7 +29,7 @@ pub fn decides(state: &State, call: Call, memory: &[u8]) -> bool {
         return call.is_allowed_by(kept.leaf);
     }
     if let Some(kept) = state.slot(call) {
-        let serves = call.is_served_by(kept.leaf);
+        let serves = call.is_allowed_by(kept.leaf);
         if serves != served(call.kind, kept.leaf) {
             return false;
         }
@@ -34,10 +37,15 @@ pub fn decides(state: &State, call: Call, memory: &[u8]) -> bool {
             return true;
         }
     }
-    match walk(call.address, call.satp, memory).leaf {
-        Some(found) => call.is_allowed_by(found.leaf) == allowed(call.kind, found.leaf),
-        None => true,
-    }
+
+    // Both find or both fault, by the same entries: where both find, the way down is the same.
+    let now = walk(call.address, call.satp, memory);
+    let originals = follow(call.address, call.satp, memory, |_| false);
+    let finds = now.leaf.is_some_and(|found| call.is_allowed_by(found.leaf));
+    let found = originals
+        .leaf
+        .is_some_and(|found| allowed(call.kind, found.leaf));
+    finds == found && now.reads == originals.reads
 }
 
 /// Whether the original's walk allows it.

@@ -1,8 +1,9 @@
-//! The walk: which entries are read, and the leaf that they lead to. It is the same for every call;
-//! whether the leaf allows the call is asked by who walks.
+//! The walk: which entries are read, and the leaf that they lead to (Volume II, "Virtual Address
+//! Translation Process"). It is the same for every call; whether the leaf allows the call is asked by who
+//! walks.
 
 use super::Found;
-use super::call::{R, V, X};
+use super::call::{R, SV39, V, W, X};
 
 const LEVELS: u32 = 3;
 
@@ -15,7 +16,35 @@ pub struct Walk {
     pub leaf: Option<Found>,
 }
 
+impl Walk {
+    const NOTHING_READ: Self = Self {
+        reads: 0,
+        leaf: None,
+    };
+}
+
 pub fn walk(address: u64, satp: u64, memory: &[u8]) -> Walk {
+    match satp >> 60 == SV39 && is_canonical(address) {
+        true => follow(address, satp, memory, is_reserved),
+        false => Walk::NOTHING_READ,
+    }
+}
+
+/// Whether bits 63 to 39 are copies of bit 38.
+pub fn is_canonical(address: u64) -> bool {
+    let from_38 = address >> 38;
+    from_38 == 0 || from_38 == u64::MAX >> 38
+}
+
+/// Whether an entry has a form that is none: W without R, or one of bits 63 to 54 set. It is neither a
+/// pointer nor a leaf.
+pub fn is_reserved(entry: u64) -> bool {
+    entry & (R | W) == W || entry >> 54 != 0
+}
+
+/// The way down the tables that satp's page number leads to. It ends at an entry that is not valid or
+/// that is `refused`.
+pub fn follow(address: u64, satp: u64, memory: &[u8], refused: fn(u64) -> bool) -> Walk {
     let mut table = satp & PAGE_BITS;
     for level in (0..LEVELS).rev() {
         let index = (address >> (12 + 9 * level)) % 512;
@@ -24,7 +53,7 @@ pub fn walk(address: u64, satp: u64, memory: &[u8]) -> Walk {
             reads: (LEVELS - level).into(),
             leaf,
         };
-        if entry & V == 0 {
+        if entry & V == 0 || refused(entry) {
             return ends(None);
         }
         if entry & (R | X) != 0 {
