@@ -6,6 +6,7 @@ mod constants;
 mod fields;
 mod inputs;
 mod interrupts;
+mod satp;
 mod sstatus;
 
 use std::fmt::Debug;
@@ -36,6 +37,7 @@ pub fn compare(seed: u64) -> Tally {
     modes(&mut tally, &mut random);
     fields::compare(&mut tally, &mut random);
     sstatus::compare(&mut tally, &mut random);
+    satp::compare(&mut tally, &mut random);
     let reset = new(&mut tally, &mut random);
 
     // From the reset state first: what differs there is the easiest to read.
@@ -128,7 +130,7 @@ fn every_mask(tally: &mut Tally, start: &Words) {
 fn every_register(tally: &mut Tally, random: &mut Random, start: &Words) {
     for address in inputs::listed() {
         let privilege = inputs::privilege(random);
-        let value = inputs::value(random);
+        let value = inputs::value_for(random, address);
         run::<Door>(tally, start, [Call::Read { address, privilege }]);
         run::<Door>(tally, start, write_and_read(address, value, privilege));
     }
@@ -174,7 +176,7 @@ fn interrupt_choices(tally: &mut Tally, random: &mut Random, reset: &Words) {
 fn any_calls(random: &mut Random, addresses: &Addresses) -> impl Iterator<Item = Call> {
     (0..LONG).map(|_| {
         let address = addresses.draw(random);
-        let value = inputs::value(random);
+        let value = inputs::value_for(random, address);
         let privilege = inputs::privilege(random);
         match random.below(8) {
             0 => Call::Pending { privilege },

@@ -41,6 +41,9 @@ impl Call {
                 "read_register of sstatus"
             }
             Self::Read { .. } => "read_register",
+            Self::Write { address, value, .. } if rules::decides_write(address, value) => {
+                "write_register, rule"
+            }
             Self::Write { .. } => "write_register",
             Self::Pending { .. } => "pending_interrupt",
         }
@@ -50,6 +53,7 @@ impl Call {
     pub fn judge(self) -> &'static str {
         match self {
             Self::Read { address, .. } if rules::decides_read(address) => "rule",
+            Self::Write { address, value, .. } if rules::decides_write(address, value) => "rule",
             _ => "original",
         }
     }
@@ -70,7 +74,7 @@ impl Call {
                 privilege,
             } => {
                 let mode = original::PrivMode::from_bits(privilege);
-                match csr.write_register(address, value, mode) {
+                match rules::write_register(csr, address, value, mode) {
                     true => (0, untouched),
                     false => (refusal(csr, address, mode), untouched),
                 }

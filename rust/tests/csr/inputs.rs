@@ -73,6 +73,16 @@ pub fn value(random: &mut Random) -> u64 {
     }
 }
 
+/// A value for a write of this register. In any other words satp's mode is nearly never 8.
+pub fn value_for(random: &mut Random, address: u32) -> u64 {
+    let value = value(random);
+    match random.below(4) {
+        0 if address == original::SATP => (8 << 60) | (value >> 4),
+        1 if address == original::SATP => value ^ (random.below(16) << 60),
+        _ => value,
+    }
+}
+
 /// A privilege number, mostly one of the four that differ.
 pub fn privilege(random: &mut Random) -> u64 {
     match random.below(8) {
