@@ -32,6 +32,8 @@ type Places = Vec<(usize, u64)>;
 
 const ROUNDS: usize = 1_400;
 const LONG: usize = 400;
+/// What a state began with is soon replaced: where it is made up, runs are shorter, and so many more.
+const MADE_UP: usize = 16;
 const LARGE_CALLS: usize = 2_000;
 
 // Lent where the length is to be refused.
@@ -47,16 +49,12 @@ pub fn compare(seed: u64) -> Tally {
     for round in 0..ROUNDS {
         for length in lengths() {
             let guest = Guest::new(&mut random, length, whose(round));
-            let mut start = reset;
-            match round % 4 {
-                0 | 1 => (),
-                2 => start[EPOCH_AT] = states::edge_epoch(&mut random),
-                _ => start = states::fitting(&mut random, &guest),
+            for (start, long) in starts(&mut random, &guest, &reset, round) {
+                cases.add(&match round % 16 {
+                    12.. => run::<Mmu>(&mut tally, &mut random, &guest, &start, long),
+                    _ => run::<Door>(&mut tally, &mut random, &guest, &start, long),
+                });
             }
-            cases.add(&match round % 16 {
-                12.. => run::<Mmu>(&mut tally, &mut random, &guest, &start),
-                _ => run::<Door>(&mut tally, &mut random, &guest, &start),
-            });
         }
     }
     cases.report(&mut tally);
@@ -78,6 +76,18 @@ fn whose(round: usize) -> Whose {
         0 | 1 => Whose::Supervisor,
         2 => Whose::User,
         _ => Whose::Anyone,
+    }
+}
+
+/// The states that a round's runs begin with, and how long each run is.
+fn starts(random: &mut Random, guest: &Guest, reset: &Words, round: usize) -> Vec<(Words, usize)> {
+    let mut edge = *reset;
+    edge[EPOCH_AT] = states::edge_epoch(random);
+    let made_up = || (states::fitting(random, guest), LONG / MADE_UP);
+    match round % 4 {
+        0 | 1 => vec![(*reset, LONG)],
+        2 => vec![(edge, LONG)],
+        _ => std::iter::repeat_with(made_up).take(MADE_UP).collect(),
     }
 }
 
@@ -141,12 +151,18 @@ fn apart(ours: &Words, theirs: &Words) -> (Places, Places) {
     (of(ours), of(theirs))
 }
 
-fn run<L: Library>(tally: &mut Tally, random: &mut Random, guest: &Guest, start: &Words) -> Cases {
+fn run<L: Library>(
+    tally: &mut Tally,
+    random: &mut Random,
+    guest: &Guest,
+    start: &Words,
+    long: usize,
+) -> Cases {
     let memory = guest.memory.clone();
     let bus = Counted::new(&memory);
     let mut trial: Trial<L> = Trial::new(start, memory, bus);
 
-    for _ in 0..LONG {
+    for _ in 0..long {
         match guest.event(random, &trial.memory) {
             Event::Ask(call) => trial.ask(tally, call),
             Event::Refused(call, length) => trial.refused(tally, call, &SHORT[..length]),
@@ -177,9 +193,10 @@ fn large(tally: &mut Tally, random: &mut Random, reset: &Words) {
         let Caller { privilege, mstatus } = Whose::Supervisor.caller(random, kind);
         let call = Call {
             kind,
+            // In the upper half, by the root's last entry and the one before it.
             address: match random.below(2) {
-                0 => (511 << 30) | random.below(0x3000),
-                _ => (510 << 30) | random.below(1 << 30),
+                0 => (u64::MAX << 30) | random.below(0x3000),
+                _ => (u64::MAX << 31) | random.below(1 << 30),
             },
             satp: (8 << 60) | root,
             privilege,

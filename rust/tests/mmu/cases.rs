@@ -2,9 +2,10 @@
 //! and why it is not. Each case is counted, so that one that no longer comes about is seen.
 
 use oracle::rules::mmu::call::{MPP_FROM, MPRV, MXR, R, SUM, U, W, X};
-use oracle::rules::mmu::walk::walk;
+use oracle::rules::mmu::walk::{Walk, walk};
 use oracle::rules::mmu::{Call, Found, Kind, Mode, State};
 
+use super::guest;
 use crate::common::Tally;
 use crate::layout::SLOTS;
 
@@ -23,12 +24,17 @@ macro_rules! cases {
                 $(self.$case += more.$case;)*
             }
 
-            fn rows(&self) -> Vec<(&'static str, u64)> {
-                vec![$(($what, self.$case)),*]
+            fn rows(&self) -> Vec<(String, u64)> {
+                vec![$(($what.to_string(), self.$case)),*]
             }
         }
     };
 }
+
+// After the macro, which it uses, too.
+mod refusals;
+
+use refusals::Refusals;
 
 // Of accesses by a satp that pages.
 cases! {
@@ -46,7 +52,6 @@ cases! {
     shortcut_denies_slot_serves "the shortcut matches and denies, the slot serves"
     slot_denies "the slot is live and denies"
     slot_denies_walk_finds "the slot is live and denies, the walk finds"
-    slot_without_d "the slot is live and lacks D alone"
     shortcut_by_other "found by the shortcut, set under another privilege, SUM or MXR"
     slot_by_other "found by the slot, filled under another privilege, SUM or MXR"
     shortcut_of_other_mode "found by the shortcut, set under another privilege"
@@ -69,17 +74,20 @@ struct Under {
 
 pub struct Cases {
     counts: Counts,
+    refusals: Refusals,
     /// The calls that the original is said not to decide, and those of them in which it does the same.
     undecided: u64,
     same: u64,
-    /// By slot, then for the two shortcuts. It is not known of those that a state began with.
-    under: [Option<Under>; SLOTS + 2],
+    /// By which kind of call each was set, by slot, then for the two shortcuts. It is not known of those
+    /// that a state began with.
+    under: [Option<(Kind, Under)>; SLOTS + 2],
 }
 
 impl Cases {
     pub fn new() -> Self {
         Self {
             counts: Counts::default(),
+            refusals: Refusals::default(),
             undecided: 0,
             same: 0,
             under: [None; SLOTS + 2],
@@ -88,6 +96,7 @@ impl Cases {
 
     pub fn add(&mut self, more: &Self) {
         self.counts.add(&more.counts);
+        self.refusals.add(&more.refusals);
         self.undecided += more.undecided;
         self.same += more.same;
     }
@@ -95,7 +104,7 @@ impl Cases {
     /// Prints each case, and finds fault with one that is too rare.
     pub fn report(&self, tally: &mut Tally) {
         println!("translations by a satp that pages, by what came about:");
-        for (what, count) in self.counts.rows() {
+        for (what, count) in self.counts.rows().into_iter().chain(self.refusals.rows()) {
             println!("{count:>12} {what}");
             if count < LEAST {
                 tally.differ("cases", what, count, "least", LEAST);
@@ -152,55 +161,79 @@ impl Cases {
         let pointed = matches!(call.kind, Kind::Load | Kind::Store);
 
         let matched = state.shortcut(call);
+        let live = state.slot(call);
+        if !call.is_by_sv39() {
+            return self.refusals.mode(call, matched, live);
+        }
+
         if let Some(kept) = matched {
             if call.is_allowed_by(kept.leaf) {
                 self.counts.by_shortcut += 1;
-                if let Some(under) = self.under[shortcut] {
+                self.refusals.by_shortcut(call, kept);
+                if let Some((_, under)) = self.under[shortcut] {
                     self.counts.shortcut_by_other += u64::from(under != now);
                     self.counts.shortcut_of_other_mode += u64::from(under.mode != now.mode);
                 }
                 return self.found(call, kept);
             }
             self.counts.shortcut_denies += 1;
+            self.refusals.shortcut_denies(call, kept);
         }
 
-        let live = state.slot(call);
         if let Some(kept) = live {
-            if call.is_served_by(kept.leaf) {
+            if call.is_allowed_by(kept.leaf) {
                 self.counts.by_slot += 1;
+                self.refusals.by_slot(call, kept);
                 self.counts.shortcut_denies_slot_serves += u64::from(matched.is_some());
-                if let Some(under) = self.under[slot] {
+                if let Some((_, under)) = self.under[slot] {
                     self.counts.slot_by_other += u64::from(under != now);
                     self.counts.slot_of_other_mode += u64::from(under.mode != now.mode);
                 }
                 if pointed {
-                    self.under[shortcut] = Some(now);
+                    self.under[shortcut] = Some((call.kind, now));
                 }
                 return self.found(call, kept);
             }
-            let lacks_d = call.is_allowed_by(kept.leaf);
-            self.counts.slot_denies += u64::from(!lacks_d);
-            self.counts.slot_without_d += u64::from(lacks_d);
+            self.counts.slot_denies += 1;
         }
 
-        match walk(call.address, call.satp, memory).leaf {
-            Some(found) if call.is_allowed_by(found.leaf) => {
+        let walked = walk(call.address, call.satp, memory);
+        let finds = walked.leaf.filter(|found| call.is_allowed_by(found.leaf));
+        if let Some(kept) = live {
+            let by = self.under[slot].map(|(kind, _)| kind);
+            self.counts.slot_denies_walk_finds += u64::from(finds.is_some());
+            self.refusals.slot_denies(call, kept, by, finds.is_some());
+        }
+        match finds {
+            Some(found) => {
                 self.counts.by_walk += 1;
-                let denied = live.is_some_and(|kept| !call.is_allowed_by(kept.leaf));
-                self.counts.slot_denies_walk_finds += u64::from(denied);
+                self.refusals.by_walk(call);
                 if call.kind != Kind::Readable {
-                    self.under[slot] = Some(now);
+                    self.under[slot] = Some((call.kind, now));
                 }
                 if pointed {
-                    self.under[shortcut] = Some(now);
+                    self.under[shortcut] = Some((call.kind, now));
                 }
                 self.found(call, found);
             }
+            None => self.faults(call, &walked, memory),
+        }
+    }
+
+    fn faults(&mut self, call: Call, walked: &Walk, memory: &[u8]) {
+        match walked.leaf {
             Some(found) => {
                 self.counts.leaf_denies += 1;
+                self.refusals.leaf_denies(call, found);
                 self.denied(call, found);
             }
-            None => self.counts.no_leaf += 1,
+            None => {
+                self.counts.no_leaf += 1;
+                let entries = guest::path(memory, call.address, call.satp);
+                let read = &entries[..walked.reads as usize];
+                self.refusals
+                    .no_leaf(call, read.last().map(|&(_, entry)| entry), walked.reads);
+            }
         }
     }
 
@@ -223,15 +256,16 @@ impl Cases {
         match call.mode() {
             Mode::S => {
                 counts.user_page_without_sum += u64::from(with(SUM));
-                let fetched = call.kind == Kind::Fetch && is_set(SUM) && has(U) && has(X);
+                let own = call.is_allowed_by(found.leaf & !U);
+                let fetched = call.kind == Kind::Fetch && is_set(SUM) && own;
                 counts.user_page_fetched += u64::from(fetched);
             }
             Mode::U => counts.supervisor_page += u64::from(call.is_allowed_by(found.leaf | U)),
             Mode::M => (),
         }
         counts.read_without_mxr += u64::from(with(MXR));
-        let store = call.kind == Kind::Store;
-        let written = store && is_set(MXR) && has(X) && !has(W);
+        let lacks_w = call.kind == Kind::Store && call.is_allowed_by(found.leaf | W);
+        let written = lacks_w && is_set(MXR) && has(X);
         counts.written_with_mxr += u64::from(written);
     }
 }

@@ -1,7 +1,7 @@
 //! Random guests: a memory full of table entries, and few enough pages and satps that the cache is
 //! hit, and fought over.
 
-use oracle::rules::mmu::call::U;
+use oracle::rules::mmu::call::{R, SV39, U, V, W, X};
 
 use super::call::{Call, Kind};
 use super::callers::{Caller, Whose};
@@ -14,8 +14,8 @@ const PAGE_BITS: u64 = (1 << 44) - 1;
 pub struct Guest {
     pub memory: Vec<u8>,
     whose: Whose,
-    /// The first is asked for most; the others are near it, far from it, and unpaged.
-    satps: [u64; 4],
+    /// The first is asked for most; the others are near it, of another mode, far from it, and unpaged.
+    satps: [u64; 5],
     /// Virtual pages.
     pages: Vec<u64>,
 }
@@ -57,11 +57,12 @@ impl Guest {
     }
 
     pub fn satp(&self, random: &mut Random) -> u64 {
-        let which = match random.below(16) {
-            0..=10 => 0,
-            11..=12 => 1,
-            13..=14 => 2,
-            _ => 3,
+        let which = match random.below(32) {
+            0..=22 => 0,
+            23..=26 => 1,
+            27 => 2,
+            28..=29 => 3,
+            _ => 4,
         };
         self.satps[which]
     }
@@ -113,7 +114,8 @@ impl Guest {
     }
 }
 
-/// The places in memory of the entries that a walk for this address reads, and what they hold.
+/// The places in memory of the entries that the original's walk for this address reads, and what they
+/// hold. The first of them are those that a walk reads which refuses more.
 pub fn path(memory: &[u8], address: u64, satp: u64) -> Vec<(usize, u64)> {
     let mut entries = Vec::with_capacity(3);
     let mut table = satp & PAGE_BITS;
@@ -138,25 +140,31 @@ fn refused_length(random: &mut Random) -> usize {
     LENGTHS[random.below(10) as usize]
 }
 
-/// Pages beside each other, in one superpage, in one slot with other tags, and with the same 27 bits
-/// of which the walk makes its indexes.
+/// Pages beside each other, in one superpage, in one slot with other tags, in the other half of the
+/// addresses; and one that is the first but for a bit, or has the same 27 bits of which the walk makes its
+/// indexes: it may be one that no walk finds.
 fn pages(random: &mut Random) -> Vec<u64> {
-    let first = match random.below(8) {
-        0 => 0,
-        1 => u64::MAX >> 12,
-        2 => random.below(512),
-        3 => random.word() >> 12,
-        _ => random.word() >> 37,
+    let first = match random.below(64) {
+        0 => random.word() >> 12,
+        1..=8 => 0,
+        9..=16 => u64::MAX >> 12,
+        17..=24 => random.below(512),
+        _ => canonical(random.word()),
     };
     let step = 1 + random.below(3);
+    let apart = match random.below(8) {
+        0 => step << 27,
+        1..=3 => 1 << random.below(52),
+        _ => 1 << random.below(26),
+    };
     let mut pages = vec![
         first,
         first + step,
         first ^ (step * SLOTS as u64),
         first ^ (step << 18),
-        first ^ (step << 27),
-        first ^ (1 << random.below(52)),
-        random.word() >> 12,
+        first ^ (u64::MAX << 26),
+        first ^ apart,
+        canonical(random.word()),
     ];
     for page in &mut pages {
         *page &= u64::MAX >> 12;
@@ -164,10 +172,16 @@ fn pages(random: &mut Random) -> Vec<u64> {
     pages
 }
 
-fn satps(random: &mut Random) -> [u64; 4] {
-    let mode = match random.below(4) {
-        0 => 1 + random.below(15),
-        _ => 8,
+/// The page with these low 27 bits, the highest of which all others copy.
+fn canonical(page: u64) -> u64 {
+    let signed = (page << 37).cast_signed() >> 37;
+    signed.cast_unsigned() & (u64::MAX >> 12)
+}
+
+fn satps(random: &mut Random) -> [u64; 5] {
+    let mode = match random.below(64) {
+        0 => random.below(16),
+        _ => SV39,
     };
     let space = match random.below(2) {
         0 => 0,
@@ -177,39 +191,48 @@ fn satps(random: &mut Random) -> [u64; 4] {
         0 => random.word() & PAGE_BITS,
         _ => random.below(16),
     };
-    let first = (mode << 60) | (space << 44) | root;
-    let near = match random.below(3) {
+    let rest = (space << 44) | root;
+    let first = (mode << 60) | rest;
+    let near = match random.below(2) {
         0 => first ^ (1 << (44 + random.below(16))),
-        1 => (first & (u64::MAX >> 4)) | (random.below(16) << 60),
         _ => first ^ (1 << random.below(44)),
     };
-    [first, near, random.word(), first & (u64::MAX >> 4)]
+    let other = (random.below(16) << 60) | rest;
+    let far = (SV39 << 60) | (random.word() >> 4);
+    [first, near, other, far, rest]
 }
 
-/// A table entry: pointers, to their own table too; leaves, aligned and not; all mixes of flags, the
-/// upper bits often set; U as the guest has it.
+/// A table entry: pointers, to their own table too; leaves, aligned and not; all mixes of flags, but A, D
+/// and what is reserved so that walks often come through; U as the guest has it.
 fn entry(random: &mut Random, own: u64, whose: Whose) -> u64 {
     let aligned = match random.below(16) {
         0..=13 => 18,
         14 => 9,
         _ => 0,
     };
+    let leaf = |random: &mut Random| random.word() << aligned;
     let (page, flags) = match random.below(16) {
-        0 => (own, 1),
-        1..=4 => (random.word() & PAGE_BITS, 1 | (random.word() & 0x3F4)),
-        5..=9 => (random.word() << aligned, 0xCF),
-        10..=12 => (random.word() << aligned, 0x3 | random.word()),
-        13 => (random.word() << aligned, 0x9 | random.word()),
-        14 => (random.word() << aligned, random.word()),
-        _ => (random.word(), random.word() & !1),
+        0 => (own, V),
+        1..=4 => (random.word(), V | (random.word() & !(R | W | X))),
+        5..=10 => (leaf(random), 0xCF),
+        11 => (leaf(random), 0x43 | random.word()),
+        12 => (leaf(random), 0x3 | random.word()),
+        13 => (leaf(random), 0x49 | (random.word() & !(R | W))),
+        14 => (leaf(random), random.word()),
+        _ => (random.word(), random.word() & !V),
+    };
+    let flags = match random.below(256) {
+        0 => (flags & !R) | W,
+        _ => flags,
     };
     let flags = match whose {
         Whose::Supervisor => flags & !U,
         Whose::User => flags | U,
         Whose::Anyone => flags ^ (U & random.word()),
     };
-    let upper = match random.below(4) {
+    let upper = match random.below(256) {
         0 => random.word() << 54,
+        1 => 1 << (54 + random.below(10)),
         _ => 0,
     };
     upper | ((page & PAGE_BITS) << 10) | (flags & 0x3FF)

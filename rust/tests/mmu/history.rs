@@ -4,12 +4,13 @@
 //! For whom those calls were made is free. Made again at once for the same effective privilege, SUM and
 //! MXR it reads no entry, whatever memory it is lent.
 //!
-//! And what a customer asks of it: no user mode finds a page that is not its own, and without SUM no
-//! supervisor one that is user mode's.
+//! And what customers ask of it: no user mode finds a page that is not its own, and without SUM no
+//! supervisor one that is user mode's; and nobody finds a page by a mode, an address, entries or a leaf
+//! that the manual refuses.
 
 use std::collections::BTreeSet;
 
-use oracle::rules::mmu::call::{SUM, U};
+use oracle::rules::mmu::call::{A, D, SUM, U};
 use oracle::rules::mmu::fresh_walk;
 
 use super::call::{Answer, Call, Door, Kind, Library, Mode};
@@ -104,45 +105,44 @@ impl<'a> History<'a> {
     }
 
     fn as_fresh(&mut self, tally: &mut Tally, call: Call, answer: Answer) {
-        let entries = guest::path(&self.memory, call.address, call.satp);
+        const NAME: &str = "history: fresh walk";
+
+        let (fresh, _) = fresh_walk(call, &self.memory);
+        let Some([fresh_value, fresh_reads]) = fresh.values else {
+            return tally.differ(NAME, call, answer, "fresh walk", fresh);
+        };
+        let mut entries = guest::path(&self.memory, call.address, call.satp);
+        entries.truncate(fresh_reads as usize);
         let held = entries.iter().all(|(at, _)| !self.changed.contains(at));
         if self.satps.len() != 1 || !held {
             return;
         }
 
-        let (fresh, _) = fresh_walk(call, &self.memory);
-        tally.calls("history: fresh walk", 1);
-        let same = match (answer.values, fresh.values) {
-            (Some([value, reads]), Some([fresh_value, fresh_reads])) => {
-                answer.number == fresh.number
-                    && value == fresh_value
-                    && (reads == 0 || reads == fresh_reads)
-            }
-            _ => false,
-        };
+        tally.calls(NAME, 1);
+        let same = answer.values.is_some_and(|[value, reads]| {
+            answer.number == fresh.number
+                && value == fresh_value
+                && (reads == 0 || reads == fresh_reads)
+        });
         if !same {
             let input = self.input(call, &entries);
-            tally.differ("history: fresh walk", input, answer, "fresh walk", fresh);
+            tally.differ(NAME, input, answer, "fresh walk", fresh);
         }
 
         if answer.number == 0 {
-            tally.calls("history: whose page", 1);
-            let users = entries.last().is_some_and(|(_, leaf)| leaf & U != 0);
-            let may = match call.mode() {
-                Mode::U => users,
-                Mode::S => !users || (call.kind != Kind::Fetch && call.mstatus & SUM != 0),
-                Mode::M => false,
+            let mut see = |name, holds: bool, rule: &str| {
+                tally.calls(name, 1);
+                if !holds {
+                    let input = self.input(call, &entries);
+                    tally.differ(name, input, answer, "rule", rule);
+                }
             };
-            if !may {
-                let input = self.input(call, &entries);
-                tally.differ(
-                    "history: whose page",
-                    input,
-                    answer,
-                    "rule",
-                    "no page of it",
-                );
-            }
+            see(
+                "history: whose page",
+                is_theirs(call, &entries),
+                "no page of it",
+            );
+            see("history: forms", has_form(call, &entries), "refused");
         }
     }
 
@@ -187,4 +187,31 @@ impl<'a> History<'a> {
             tally.differ("history: again at once", input, again, "rule", expected);
         }
     }
+}
+
+/// Whether the page is one of the call's mode.
+fn is_theirs(call: Call, entries: &Places) -> bool {
+    let users = entries.last().is_some_and(|(_, leaf)| leaf & U != 0);
+    match call.mode() {
+        Mode::U => users,
+        Mode::S => !users || (call.kind != Kind::Fetch && call.mstatus & SUM != 0),
+        Mode::M => false,
+    }
+}
+
+/// Whether satp, the address and each entry are of a form that there is, and the leaf has A, and D for a
+/// store. Bits 2 and 1 of an entry are W and R.
+fn has_form(call: Call, entries: &Places) -> bool {
+    let sign = call.address.cast_signed() >> 38;
+    let has_sign = sign == 0 || sign == -1;
+    let has_mode = call.satp >> 60 == 8;
+    let is_plain = |(_, entry): &(usize, u64)| entry >> 54 == 0 && (entry >> 1) % 4 != 2;
+    let needed = match call.kind {
+        Kind::Store => A | D,
+        _ => A,
+    };
+    let has_bits = entries
+        .last()
+        .is_some_and(|(_, leaf)| leaf & needed == needed);
+    has_sign && has_mode && entries.iter().all(is_plain) && has_bits
 }
