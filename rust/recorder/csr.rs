@@ -102,9 +102,7 @@ impl<'a> File<'a> {
 
     fn write(&mut self, address: u32, value: u64, mode: u64) {
         let before = self.csr.oracle_words();
-        let done = self
-            .csr
-            .write_register(address, value, PrivMode::from_bits(mode));
+        let done = rules::write_register(&mut self.csr, address, value, PrivMode::from_bits(mode));
         let number = match done {
             true => 0,
             false => self.refusal(address, mode),
@@ -198,13 +196,23 @@ fn partial(file: &mut File, random: &mut Random) {
     }
 }
 
-/// SATP with TVM clear and set, in each mode.
+/// SATP with TVM clear and set, in each mode of the hart; then each mode of its own over the two that it
+/// takes, from M-mode and, where TVM closes it, from S-mode.
 fn satp(file: &mut File) {
     for status in [0, original::MSTATUS_TVM, u64::MAX] {
         file.write(original::MSTATUS, status, 3);
         for mode in 0..4 {
             file.write(original::SATP, 0x8000_0000_0000_0001 + mode, mode);
             file.read(original::SATP, mode);
+        }
+    }
+    for own in 0..16 {
+        for old in rules::SATP_MODES {
+            file.write(original::SATP, (old << 60) | (0x123 << 44) | 0x456, 3);
+            file.write(original::SATP, (own << 60) | (0x321 << 44) | own, 1);
+            file.read(original::SATP, 3);
+            file.write(original::SATP, (own << 60) | (0xFEDC << 44) | own, 3);
+            file.read(original::SATP, 3);
         }
     }
 }

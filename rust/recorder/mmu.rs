@@ -1,13 +1,15 @@
 //! mmu.rs: walks to leaves and faults of each kind at each level, the cache and its shortcuts, stores
-//! to table entries between calls, epochs at their end; each flag for each caller; then random guests.
+//! to table entries between calls, epochs at their end; each flag for each caller; what the manual
+//! refuses; then random guests.
 //!
 //! A call is asked of the original where it still decides, and there the second reading of the rules
 //! must give the same. Elsewhere that alone is asked.
 
 mod cache;
 mod callers;
+mod refusals;
 
-use oracle::layout::{EPOCH_AT, LOAD_AT, MMU_WORDS, SLOT_WORDS, SLOTS, SLOTS_AT, STORE_AT};
+use oracle::layout::{EPOCH_AT, LOAD_AT, MMU_WORDS, SLOTS, STORE_AT};
 
 use crate::common::Random;
 use crate::list::List;
@@ -79,6 +81,7 @@ pub fn record(list: &mut List, random: &mut Random) {
 
     let mut by_rule = edges(Cache::new(list));
     by_rule += callers::record(Cache::new(list));
+    by_rule += refusals::record(Cache::new(list));
     for _ in 0..GUESTS {
         by_rule += guest(Cache::new(list), random, &[(1, 0)]);
         by_rule += guest(Cache::new(list), random, &callers::CALLERS);
@@ -105,9 +108,15 @@ fn entry(page: u64, flags: u64) -> u64 {
     (page << 10) | flags
 }
 
-/// Flags of an entry: all, all but D, R, X, R and W, R and X; V and W alone, with which the original goes
-/// on to the next level; two with V clear; and every bit but U.
-const FLAGS: [u64; 10] = [0xCF, 0x4F, 0x3, 0x9, 0x7, 0xB, 0x5, 0xCE, 0x0, 0x3EF];
+/// Flags of an entry: all, all but D, R, X, R and W, R and X, these with A; V and W alone, with which the
+/// original goes on to the next level; two with V clear; and every bit but U.
+const FLAGS: [u64; 10] = [0xCF, 0x4F, 0x43, 0x49, 0xC7, 0x4B, 0x5, 0xCE, 0x0, 0x3EF];
+
+/// The address with these low 39 bits, the highest of which all others copy.
+fn canonical(address: u64) -> u64 {
+    let signed = (address << 25).cast_signed() >> 25;
+    signed.cast_unsigned()
+}
 
 /// One entry of each kind at each level: the tables stand at pages 1, 2 and 3.
 fn walks(cache: &mut Cache) {
@@ -119,21 +128,22 @@ fn walks(cache: &mut Cache) {
         cache.entry(0x2000 + 8 * i, entry(page << 9, flags));
         cache.entry(0x3000 + 8 * i, entry(page, flags));
     }
-    // Not aligned, by the lowest bit and by the highest; a pointer to its own table; all bits set but U.
+    // Not aligned, by the lowest bit and by the highest; a pointer to its own table; the last pages.
     cache.entry(0x1000 + 8 * 0x20, entry(1, 0xCF));
     cache.entry(0x1000 + 8 * 0x21, entry(1 << 17, 0xCF));
     cache.entry(0x1000 + 8 * 0x22, entry(1, 1));
-    cache.entry(0x1000 + 8 * 0x23, u64::MAX << 28 | 0xCF);
+    cache.entry(0x1000 + 8 * 0x23, entry((1 << 44) - (1 << 18), 0xCF));
     cache.entry(0x2000 + 8 * 0x20, entry(1, 0xCF));
     cache.entry(0x2000 + 8 * 0x21, entry(1 << 8, 0xCF));
     cache.entry(0x2000 + 8 * 0x22, entry(2, 1));
-    cache.entry(0x3000 + 8 * 0x20, u64::MAX ^ 0x10);
+    cache.entry(0x3000 + 8 * 0x20, entry((1 << 44) - 1, 0x3EF));
     cache.entry(0x3000 + 8 * 0x21, entry(3, 1));
     cache.entry(0x3000 + 8 * 0x1FF, entry((1 << 44) - 1, 0xCF));
 
     let indexes = (1..=10).chain(0x20..=0x23).chain([0x1FF]);
     let addresses: Vec<u64> = indexes
         .flat_map(|i| [i << 30 | 0x1234_5678, i << 21 | 0x12345, i << 12 | 0x123])
+        .map(canonical)
         .collect();
     for kind in KINDS {
         for &address in &addresses {
@@ -144,7 +154,7 @@ fn walks(cache: &mut Cache) {
 }
 
 /// The same page again and its neighbours, each kind after each other; addresses that share a slot, as
-/// many pages apart as there are slots, and a table entry, 2^39 apart.
+/// many pages apart as there are slots, or so far that no walk finds the second.
 fn slots(cache: &mut Cache) {
     cache.flush();
     for first in [LOAD, STORE, FETCH] {
@@ -236,38 +246,23 @@ fn epochs(cache: &mut Cache) {
 }
 
 /// Slots and shortcuts that no walk filled: result pages of more than 52 bits lose the others, and a
-/// page that no address has is no one's. Where the shortcut's leaf entry denies, the slot is asked.
+/// page that no address has is no one's. Where the shortcut's leaf entry denies, the slot is asked. All
+/// have A; of those for a store some have no D.
 fn held(cache: &mut Cache) {
-    let at = |page: usize| SLOTS_AT + SLOT_WORDS * page;
+    cache.set(&[(EPOCH_AT, 9)]);
     for (frame, leaf, shortcut) in [
         (5, 0xCF, 0xCF),
-        (u64::MAX, 0x7, 0x7),
-        (1 << 52, 0x8F, 0x6),
-        (0x123, 0x87, 0xDF),
-        (0x321, 0x84, 0xC9),
+        (u64::MAX, 0x47, 0xC7),
+        (1 << 52, 0xCF, 0x46),
+        (0x123, 0xC7, 0xDF),
+        (0x321, 0xC4, 0xC9),
         (0x456, 0xCF, 0xDF),
         (0x654, 0xC7, 0),
     ] {
-        for slot in [at(3), at(4)] {
-            let page = ((slot - SLOTS_AT) / SLOT_WORDS) as u64;
-            cache.set(&[
-                (slot, page),
-                (slot + 1, frame ^ 2),
-                (slot + 2, leaf),
-                (slot + 3, 9),
-            ]);
-        }
-        cache.set(&[
-            (EPOCH_AT, 9),
-            (LOAD_AT, 4),
-            (LOAD_AT + 1, frame),
-            (LOAD_AT + 2, SATP),
-            (LOAD_AT + 3, shortcut),
-            (STORE_AT, 4),
-            (STORE_AT + 1, frame ^ 1),
-            (STORE_AT + 2, SATP),
-            (STORE_AT + 3, shortcut),
-        ]);
+        cache.set_slot(3, frame ^ 2, leaf);
+        cache.set_slot(4, frame ^ 2, leaf);
+        cache.set_shortcut(LOAD_AT, [4, frame, SATP, shortcut]);
+        cache.set_shortcut(STORE_AT, [4, frame ^ 1, SATP, shortcut]);
         for kind in KINDS {
             cache.ask(kind, 0x4321, SATP);
             cache.ask(kind, 0x3321, SATP);
@@ -294,26 +289,27 @@ fn lengths(cache: &mut Cache) {
 }
 
 /// A memory with tables of random entries, few pages, satps and callers; calls, stores to entries and
-/// flushes in any order.
+/// flushes in any order. Of the pages one, and of the satps one, is none that a walk finds.
 fn guest(mut cache: Cache, random: &mut Random, callers: &[(u64, u64)]) -> usize {
     let root = 1 + random.below(3);
-    let first = random.below(1 << 27);
+    let first = canonical(random.word()) >> 12;
     let page = |random: &mut Random| match random.below(6) {
-        0 => first + 1,
+        0 => first ^ 1,
         1 => first ^ SLOTS as u64,
         2 => first ^ (1 << 18),
-        3 => first | (1 << 27),
+        3 => first ^ (1 << 27),
         _ => first,
     };
     let satps = [
         (8 << 60) | root,
         (8 << 60) | (5 << 44) | root,
         (8 << 60) | (root + 1),
+        (9 << 60) | root,
         root,
     ];
 
     for _ in 0..EVENTS {
-        let satp = satps[(random.below(10) as usize).saturating_sub(6)];
+        let satp = satps[(random.below(12) as usize).saturating_sub(7)];
         match random.below(12) {
             0 => cache.flush(),
             1..=4 => {
@@ -350,14 +346,15 @@ fn place(memory: &[u8], random: &mut Random, address: u64, satp: u64) -> usize {
     place
 }
 
-/// Mostly pointers, so that walks go deep; leaves that are aligned for a level.
+/// Mostly pointers, so that walks go deep; leaves that are aligned for a level, and of any flags.
 fn any_entry(random: &mut Random) -> u64 {
     let page = random.word() >> 20;
-    match random.below(8) {
-        0..=3 => entry(1 + random.below(7), 1),
-        4 => entry(page >> 18 << 18, 0xCF),
-        5 => entry(page >> 9 << 9, random.word() & 0x3FF | 3),
-        6 => entry(page, 0xCF),
+    match random.below(16) {
+        0..=7 => entry(1 + random.below(7), 1),
+        8..=9 => entry(page >> 18 << 18, 0xCF),
+        10..=11 => entry(page >> 9 << 9, random.word() & 0x3FF | 0x43),
+        12..=13 => entry(page, 0xCF),
+        14 => entry(page, random.word() & 0x3FF),
         _ => random.word(),
     }
 }

@@ -1,6 +1,7 @@
 //! A translation state whose calls are recorded.
 
 use oracle::counted::Counted;
+use oracle::layout::{EPOCH_AT, SHORTCUT_WORDS, SLOT_WORDS, SLOTS, SLOTS_AT};
 use oracle::mmu::Mmu;
 use oracle::rules::mmu::{Call, Kind, State, original};
 
@@ -55,6 +56,23 @@ impl<'a> Cache<'a> {
         }
         *self.original = Mmu::oracle_from(&self.rule.words);
         self.list.set(SET, &[], changes);
+    }
+
+    /// The page's slot, live, as no walk filled it.
+    pub fn set_slot(&mut self, page: u64, frame: u64, leaf: u64) {
+        let at = SLOTS_AT + SLOT_WORDS * (page as usize % SLOTS);
+        let epoch = self.rule.words[EPOCH_AT];
+        self.set_from(at, [page, frame, leaf, epoch]);
+    }
+
+    /// A shortcut as no call set it: page, result page, satp, leaf entry.
+    pub fn set_shortcut(&mut self, at: usize, words: [u64; SHORTCUT_WORDS]) {
+        self.set_from(at, words);
+    }
+
+    fn set_from<const N: usize>(&mut self, at: usize, words: [u64; N]) {
+        let changes: Vec<Change> = (at..).zip(words).collect();
+        self.set(&changes);
     }
 
     pub fn entry(&mut self, address: usize, entry: u64) {
