@@ -201,5 +201,14 @@ fn translation() -> Result<(), Refusal> {
         let answer = mmu.translate_load(0x123, satp, priv_mode, mstatus, memory.bytes());
         println!("  {who:24} {}", shown(answer));
     }
+
+    // What the manual refuses faults: an address whose upper bits are no copies of bit 38, for which no
+    // entry is read, and a page whose A is clear.
+    memory.write_doubleword(0x3000, 0x149F)?;
+    mmu.flush();
+    for (what, address) in [("bit 39 set", 1 << 39 | 0x123), ("page without A", 0x123)] {
+        let answer = mmu.translate_load(address, satp, PrivMode::U, 0, memory.bytes());
+        println!("  {what:24} {}", shown(answer));
+    }
     Ok(())
 }

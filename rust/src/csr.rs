@@ -9,6 +9,11 @@
 //! assert_eq!(csr.read_register(MSTATUS, PrivMode::M)?, 0x8000_000A_007F_FFEA);
 //! assert_eq!(csr.read_register(SSTATUS, PrivMode::S)?, 0x8000_0002_000D_E762);
 //!
+//! // SATP takes modes 0 and 8, its bits 63 to 60. Any other is accepted, and changes nothing.
+//! csr.write_register(SATP, 0x8000_0000_0000_0001, PrivMode::M)?;
+//! csr.write_register(SATP, 0x9000_0000_0000_0002, PrivMode::M)?;
+//! assert_eq!(csr.read_register(SATP, PrivMode::M)?, 0x8000_0000_0000_0001);
+//!
 //! // There is no CSR 0x7FF. And now TVM is set, which closes SATP to S-mode.
 //! assert_eq!(csr.read_register(0x7FF, PrivMode::M), Err(Refusal::CsrAddress));
 //! assert_eq!(csr.write_register(SATP, 1, PrivMode::S), Err(Refusal::SatpTrapped));
@@ -119,7 +124,7 @@ pub const SCAUSE: u32 = 0x142;
 pub const STVAL: u32 = 0x143;
 /// What S-mode sees of the interrupts pending: those delegated.
 pub const SIP: u32 = 0x144;
-/// The translation of addresses.
+/// The translation of addresses. A write with a mode other than 0 and 8 is ignored.
 pub const SATP: u32 = 0x180;
 
 // Addresses: counters.
@@ -292,7 +297,7 @@ impl Csr {
     }
 
     /// Sets of a CSR what may be written. Refused as the read is. A write to a CSR that is listed
-    /// but not kept is ignored.
+    /// but not kept is ignored, and so is one of SATP with a mode other than 0 and 8.
     #[inline]
     pub fn write_register(
         &mut self,

@@ -80,6 +80,38 @@
 //! # Ok::<(), TranslationError>(())
 //! ```
 //!
+//! What the manual refuses is a page fault. Neither A nor D is ever set here: a guest's kernel does it,
+//! where a page without them faults.
+//!
+//! ```
+//! use leavnnjar::csr::PrivMode::S;
+//! use leavnnjar::mmu::{Mmu, MmuFault, TranslationError};
+//!
+//! let satp = 0x8000_0000_0000_0001;
+//! let mut memory = [0; 16384];
+//! let mut load = |address, satp, entry: u64| {
+//!     memory[0x1000..0x1008].copy_from_slice(&entry.to_le_bytes());
+//!     Mmu::new().translate_load(address, satp, S, 0, &memory)
+//! };
+//! let fault = |address, reads| {
+//!     let fault = MmuFault::LoadPageFault(address);
+//!     Err(TranslationError::Fault { fault, reads })
+//! };
+//! assert_eq!(load(0x123, satp, 0xCF)?.address, 0x123);
+//!
+//! // Bits 63 to 39 are no copies of bit 38. No entry is read.
+//! assert_eq!(load(1 << 39 | 0x123, satp, 0xCF), fault(1 << 39 | 0x123, 0));
+//!
+//! // A leaf without A; W without R; bit 54 of an entry, or one above it, set.
+//! for entry in [0x8F, 0xCD, 1 << 54 | 0xCF] {
+//!     assert_eq!(load(0x123, satp, entry), fault(0x123, 1));
+//! }
+//!
+//! // satp's modes are 0, where nothing is paged, and 8.
+//! assert_eq!(load(0x123, satp | 1 << 60, 0xCF), fault(0x123, 0));
+//! # Ok::<(), TranslationError>(())
+//! ```
+//!
 //! A leaf further up maps a superpage, and must be aligned to it:
 //!
 //! ```
@@ -160,11 +192,12 @@ impl MmuFault {
 pub enum TranslationError {
     /// The call was refused: the length of the memory does not do.
     Refused(Refusal),
-    /// The tables do not allow the access.
+    /// The tables do not allow the access, or satp and the address lead to none.
     Fault {
         /// The kind of fault, and the address that was asked for.
         fault: MmuFault,
-        /// How many table entries were read, the one that it faulted on included.
+        /// How many table entries were read, the one that it faulted on included: 0 where satp's mode
+        /// or the address is refused, else 1 to 3.
         reads: u64,
     },
 }
@@ -199,7 +232,8 @@ impl std::error::Error for TranslationError {}
 /// its mstatus changes: a call is told both, and a page that is kept serves it only if it may use it.
 ///
 /// Loads and stores, [`Mmu::translate_readable`] too, go by the mode of MPP while MPRV is set, else
-/// by the hart's own, and a fetch always by the hart's own. In M-mode nothing is paged.
+/// by the hart's own, and a fetch always by the hart's own. In M-mode nothing is paged, nor where satp's
+/// mode is 0. By any mode but 0 and 8 everything else faults, also where a page is kept.
 #[derive(Clone, Debug, PartialEq, Eq)]
 pub struct Mmu {
     words: Box<[u64; Self::WORDS]>,
@@ -319,24 +353,31 @@ impl Mmu {
 
     /// Where a store to this address goes.
     ///
-    /// The walk does not ask for D in the leaf entry, but a slot without it is not used: then only
-    /// the page of the last store is found without a walk.
+    /// The leaf entry must have D, and none is set here. A page that a load or a fetch found without D
+    /// is kept, but serves no store: the tables are asked, and no flush is needed once D is set there.
     ///
     /// ```
     /// use leavnnjar::csr::PrivMode::S;
-    /// use leavnnjar::mmu::Mmu;
+    /// use leavnnjar::mmu::{Mmu, MmuFault, TranslationError};
     ///
-    /// // Pages 0 and 1 are mapped to pages 5 and 6, both without D.
+    /// // Page 0 is mapped to page 5, without D.
     /// let satp = 0x8000_0000_0000_0001;
     /// let mut memory = [0; 16384];
-    /// for (place, entry) in [(0x1000, 0x801), (0x2000, 0xC01), (0x3000, 0x144F), (0x3008, 0x184F)] {
+    /// for (place, entry) in [(0x1000, 0x801), (0x2000, 0xC01), (0x3000, 0x144F)] {
     ///     memory[place..place + 8].copy_from_slice(&u64::to_le_bytes(entry));
     /// }
     ///
     /// let mut mmu = Mmu::new();
-    /// let reads = [0x123, 0x123, 0x1000, 0x123]
-    ///     .map(|address| mmu.translate_store(address, satp, S, 0, &memory).unwrap().reads);
-    /// assert_eq!(reads, [3, 0, 3, 3]);
+    /// assert_eq!(mmu.translate_load(0x123, satp, S, 0, &memory)?.reads, 3);
+    /// let fault = MmuFault::StorePageFault(0x123);
+    /// let answer = mmu.translate_store(0x123, satp, S, 0, &memory);
+    /// assert_eq!(answer, Err(TranslationError::Fault { fault, reads: 3 }));
+    ///
+    /// // The guest sets D.
+    /// memory[0x3000] |= 0x80;
+    /// assert_eq!(mmu.translate_store(0x123, satp, S, 0, &memory)?.reads, 3);
+    /// assert_eq!(mmu.translate_store(0x123, satp, S, 0, &memory)?.reads, 0);
+    /// # Ok::<(), TranslationError>(())
     /// ```
     #[inline]
     pub fn translate_store(
