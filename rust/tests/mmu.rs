@@ -33,7 +33,7 @@ type Places = Vec<(usize, u64)>;
 const ROUNDS: usize = 1_400;
 const LONG: usize = 400;
 /// What a state began with is soon replaced: where it is made up, runs are shorter, and so many more.
-const MADE_UP: usize = 16;
+const MADE_UP: usize = 8;
 const LARGE_CALLS: usize = 2_000;
 
 // Lent where the length is to be refused.

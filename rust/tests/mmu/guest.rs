@@ -179,7 +179,7 @@ fn canonical(page: u64) -> u64 {
 }
 
 fn satps(random: &mut Random) -> [u64; 5] {
-    let mode = match random.below(64) {
+    let mode = match random.below(32) {
         0 => random.below(16),
         _ => SV39,
     };
