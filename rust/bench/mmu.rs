@@ -17,7 +17,7 @@ fn addresses(pages: u64) -> Vec<u64> {
     trace(|i| ((i % pages) << 12) | scattered(i) >> 52)
 }
 
-/// Three tables: pages 0 and 1 are mapped, with every permission and D.
+/// Three tables: pages 0 and 1 are mapped, with every permission, A and D.
 fn tables() -> Vec<u8> {
     let mut memory = vec![0; 16384];
     let entries = [
