@@ -115,7 +115,7 @@ impl Guest {
 }
 
 /// The places in memory of the entries that the original's walk for this address reads, and what they
-/// hold. The first of them are those that a walk reads which refuses more.
+/// hold. A walk that refuses more reads the first of them.
 pub fn path(memory: &[u8], address: u64, satp: u64) -> Vec<(usize, u64)> {
     let mut entries = Vec::with_capacity(3);
     let mut table = satp & PAGE_BITS;
@@ -202,8 +202,8 @@ fn satps(random: &mut Random) -> [u64; 5] {
     [first, near, other, far, rest]
 }
 
-/// A table entry: pointers, to their own table too; leaves, aligned and not; all mixes of flags, but A, D
-/// and what is reserved so that walks often come through; U as the guest has it.
+/// A table entry: pointers, to their own table too; leaves, aligned and not; all mixes of flags, U as the
+/// guest has it. What is refused is seldom enough that walks often come through.
 fn entry(random: &mut Random, own: u64, whose: Whose) -> u64 {
     let aligned = match random.below(16) {
         0..=13 => 18,
