@@ -27,14 +27,14 @@ original's CSR file only says that it refuses: there the number is the rule's, 3
 with TVM set and 2 for all else. Where the original panics it has no answer, and nothing is recorded.
 
 Some answers the original no longer decides. A read of sstatus, csr 100, shows SD and UXL, too: there
-the value is the rule's, what the original answers for mstatus, under the mask 80000003000de762. A write
-of satp, csr 180, with a mode other than 0 and 8 is done and changes nothing. A translation heeds the
-privilege, and faults on what the manual refuses: a mode other than 0 and 8, bits 63 to 39 that are not
-copies of bit 38, an entry with W and not R or with one of bits 63 to 54, a leaf without A, a store to one
-without D. So answer and words are the rule's where it is M's and satp pages; by another mode; where a leaf
-entry that it comes to serves it by the rule and not by the original, or the other way round; and where a
-walk finds by one and faults by the other, or reads more by one. So are always the leaf entries of the
-shortcuts, which the original does not keep.
+the value is the rule's, what the original answers for mstatus, under the mask 80000003000de762. A
+write of satp, csr 180, with a mode other than 0 and 8 is done and changes nothing. A translation heeds
+the privilege, and faults on what the manual refuses: a mode other than 0 and 8, bits 63 to 39 that are
+not copies of bit 38, an entry with W and not R or with one of bits 63 to 54, a leaf without A, a store
+to one without D. So answer and words are the rule's where it is M's and satp pages; by another mode;
+where a leaf entry that it comes to serves it by the rule and not by the original, or the other way
+round; and where a walk finds by one and faults by the other, or reads more by one. So are always the
+leaf entries of the shortcuts, which the original does not keep.
 
 A call on a state begins with the words that the line before it left. 'new' makes a new state, and
 lists every word that is not 0. 'set' is no call: it gives words of the state the values listed.

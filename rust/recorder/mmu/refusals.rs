@@ -6,8 +6,8 @@ use oracle::layout::{LOAD_AT, STORE_AT};
 use super::cache::Cache;
 use super::{FETCH, KINDS, LOAD, SATP, STORE, entry};
 
-/// The tables stand at pages 1, 2 and 3. One at page 4, for the pointers of `forms`, begins with a leaf that
-/// is aligned for level 1.
+/// The tables stand at pages 1, 2 and 3. One at page 4, for the pointers of `forms`, begins with a
+/// leaf that is aligned for level 1.
 pub fn record(mut cache: Cache) -> usize {
     cache.entry(0x1000, entry(2, 1));
     cache.entry(0x2000, entry(3, 1));
@@ -27,8 +27,8 @@ fn ask_each(cache: &mut Cache, address: u64, satp: u64) {
     }
 }
 
-/// The ends of both halves and what lies beyond them, by leaves of the root; then of an address of each half
-/// each of bits 63 to 39, alone no copy of bit 38.
+/// The ends of both halves and what lies beyond them, by leaves of the root; then of an address of
+/// each half each of bits 63 to 39, alone no copy of bit 38.
 fn addresses(cache: &mut Cache) {
     for index in [0xFF, 0x100, 0x1FF] {
         cache.entry(0x1000 + 8 * index, entry((index as u64) << 18, 0xCF));
@@ -47,8 +47,9 @@ fn addresses(cache: &mut Cache) {
     cache.flush();
 }
 
-/// At each level: W alone and W with X, for each kind; a pointer and a leaf with each of bits 63 to 54, and
-/// what is no form of its own: a pointer with U, G, A or D, and the bits that are left to software.
+/// At each level: W alone and W with X, for each kind; a pointer and a leaf with each of bits 63 to
+/// 54, and what is no form of its own: a pointer with U, G, A or D, and the bits that are left to
+/// software.
 fn forms(cache: &mut Cache) {
     let pointer = entry(4, 1);
     for (table, shift, leaf) in [
@@ -80,8 +81,9 @@ fn forms(cache: &mut Cache) {
     }
 }
 
-/// Leaves without A, without D and without both, at each level, for each kind. Then pages without D: a load
-/// fills the slot, which serves no store; once D is set a store finds it by the tables, with no flush.
+/// Leaves without A, without D and without both, at each level, for each kind. Then pages without D:
+/// a load fills the slot, which serves no store; once D is set a store finds it by the tables, with
+/// no flush.
 fn marks(cache: &mut Cache) {
     for (table, shift, page) in [(0x1000, 30, 6 << 18), (0x2000, 21, 6 << 9), (0x3000, 12, 6)] {
         for flags in [0x8F, 0x4F, 0x0F] {
@@ -110,8 +112,8 @@ fn marks(cache: &mut Cache) {
     cache.flush();
 }
 
-/// Each mode, with the tables and without a slot of the page and with one; and by a hart in M-mode, which
-/// is not paged.
+/// Each mode, with the tables and without a slot of the page and with one; and by a hart in M-mode,
+/// which is not paged.
 fn modes(cache: &mut Cache) {
     for mode in 1..16 {
         let satp = (mode << 60) | 1;
@@ -125,8 +127,8 @@ fn modes(cache: &mut Cache) {
     }
 }
 
-/// Slots and shortcuts that no walk filled. A and D are asked of their leaves as of any other; not so V, W
-/// without R, bits 63 to 54, and whether a walk finds the page.
+/// Slots and shortcuts that no walk filled. A and D are asked of their leaves as of any other; not so
+/// V, W without R, bits 63 to 54, and whether a walk finds the page.
 fn kept(cache: &mut Cache) {
     const UPPER: [u64; 2] = [0xCF | 1 << 54, 0xCF | 1 << 63];
     let leaves = [0xCF, 0x8F, 0x4F, 0xCE, 0xCD, 0xC4]

@@ -49,7 +49,7 @@ fields! {
     18 sepc set_sepc "Where S-mode's trap came from."
     19 scause set_scause "The cause of S-mode's trap."
     20 stval set_stval "The value of S-mode's trap."
-    21 satp set_satp "The translation of addresses, as a translation takes it. Neither TVM nor the mode is looked at."
+    21 satp set_satp "The translation of addresses, as a translation takes it. TVM and mode are not looked at."
     22 hart_id set_hart_id "The number of the hart. A write to MHARTID does not change it."
     103 cycle set_cycle "Cycles, which the host counts."
     104 instret set_instret "Instructions retired, which the host counts."

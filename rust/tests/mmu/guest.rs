@@ -141,8 +141,8 @@ fn refused_length(random: &mut Random) -> usize {
 }
 
 /// Pages beside each other, in one superpage, in one slot with other tags, in the other half of the
-/// addresses; and one that is the first but for a bit, or has the same 27 bits of which the walk makes its
-/// indexes: it may be one that no walk finds.
+/// addresses; and one that is the first but for a bit, or has the same 27 bits of which the walk
+/// makes its indexes: it may be one that no walk finds.
 fn pages(random: &mut Random) -> Vec<u64> {
     let first = match random.below(64) {
         0 => random.word() >> 12,
@@ -202,8 +202,8 @@ fn satps(random: &mut Random) -> [u64; 5] {
     [first, near, other, far, rest]
 }
 
-/// A table entry: pointers, to their own table too; leaves, aligned and not; all mixes of flags, U as the
-/// guest has it. What is refused is seldom enough that walks often come through.
+/// A table entry: pointers, to their own table too; leaves, aligned and not; all mixes of flags, U as
+/// the guest has it. What is refused is seldom enough that walks often come through.
 fn entry(random: &mut Random, own: u64, whose: Whose) -> u64 {
     let aligned = match random.below(16) {
         0..=13 => 18,

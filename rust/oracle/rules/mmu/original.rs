@@ -1,12 +1,12 @@
 //! What of this the original still decides, and its answer there.
 //!
 //! It knows no privilege: it never takes an access for one of M, and a leaf allows a fetch by X, a load
-//! by R, a store by W. Nor does it know a reserved form: it walks under every mode and for every address,
-//! and whatever of an entry is neither V nor a permission is nothing to it, but D in a slot. So it no
-//! longer decides a call that is M's where satp pages, nor one by a mode that is none; nor one that comes to
-//! a leaf which serves it by one rule and not by the other; nor one whose walk finds by one rule and faults
-//! by the other, or reads more by one than by the other. Nor does it keep a shortcut's leaf entry: of the
-//! state, those two words are never its own to decide.
+//! by R, a store by W. Nor does it know what the manual refuses: it walks by every mode and for every
+//! address, and of an entry it asks nothing but V and permissions, and D in a slot. So it no longer
+//! decides a call that is M's where satp pages, nor one by a mode that is none; nor one that comes to a
+//! kept leaf which serves it by one rule and not by the other; nor one whose walk finds by one rule and
+//! faults by the other, or reads more by one. Nor does it keep a shortcut's leaf entry: of the state,
+//! those two words are never its own to decide.
 
 use super::call::{D, R, W, X};
 use super::walk::{follow, walk};

@@ -70,27 +70,15 @@ impl Refusals {
                 by_level.map(|(l, &count)| (format!("faults: {form}, at level {l}"), count)),
             );
         }
-        let mut rarest = |of: &str, counts: &mut dyn Iterator<Item = &u64>| {
-            let least = counts.min().copied().unwrap_or(0);
+        let others = [&self.modes[1..8], &self.modes[9..]].concat();
+        for (of, counts) in [
+            ("bits 63 to 54 of an entry, set alone", &self.bits[..]),
+            ("bits 63 to 39, alone no copy of bit 38", &self.copies),
+            ("modes 1 to 7 and 9 to 15", &others),
+        ] {
+            let least = counts.iter().min().copied().unwrap_or(0);
             rows.push((format!("faults: the rarest of {of}"), least));
-        };
-        rarest(
-            "bits 63 to 54 of an entry, set alone",
-            &mut self.bits.iter(),
-        );
-        rarest(
-            "bits 63 to 39, alone no copy of bit 38",
-            &mut self.copies.iter(),
-        );
-        let other = self
-            .modes
-            .iter()
-            .enumerate()
-            .filter(|(mode, _)| mode % 8 != 0);
-        rarest(
-            "modes 1 to 7 and 9 to 15",
-            &mut other.map(|(_, count)| count),
-        );
+        }
         rows
     }
 
