@@ -16,7 +16,7 @@ use libc::STDIN_FILENO;
 use list::Line;
 use told::Answer;
 
-// Room for a list three times as long. It is lent as the array that it is, of which no proof is asked how long it is.
+// Room for a list almost twice as long. It is lent as the array that it is, of which no proof is asked how long it is.
 fn main() {
     let mut text = [0u8; 1048576];
     replay_input(&mut text);
