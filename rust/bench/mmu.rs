@@ -1,4 +1,4 @@
-//! Translations that the cache answers, and flushes.
+//! Translations that the cache answers, translations that walk, and flushes.
 
 use leavnnjar::csr::PrivMode;
 use leavnnjar::mmu::Mmu;
@@ -72,12 +72,26 @@ macro_rules! hits {
     }};
 }
 
+/// What keeps nothing walks each time, here by three entries.
+fn walks() {
+    let (satp, mode, mstatus) = std::hint::black_box((SATP, PrivMode::S, MSTATUS));
+    ways!(
+        "readable, by three reads", addresses(2), address,
+        library: tables(), |memory| Mmu::translate_readable(address, satp, mode, mstatus, memory).expect("mapped").address,
+        original: Guest::new(), fn(guest: &mut Guest, address: u64 = address, satp: u64 = satp) -> Option<u64> {
+            Original::translate_readable(address, satp, &mut guest.bus)
+        },
+        seen: |answer| answer.expect("mapped")
+    );
+}
+
 pub fn rows() {
     hits!("load, by shortcut", translate_load, 1);
     hits!("load, by slot", translate_load, 2);
     hits!("store, by shortcut", translate_store, 1);
     hits!("store, by slot", translate_store, 2);
     hits!("fetch, by slot", translate_fetch, 2);
+    walks();
     ways!(
         "flush", [(); CALLS], (),
         library: Mmu::new(), |mmu| mmu.flush(),
