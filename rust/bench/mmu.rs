@@ -12,17 +12,22 @@ const SATP: u64 = 0x8000_0000_0000_0001;
 /// As at reset: SUM, MXR and MPRV are clear.
 const MSTATUS: u64 = 0xA_0000_0000;
 
+/// Two pages: one beside the other, or so far apart that they have one slot.
+const BESIDE: u64 = 0x1000;
+const ONE_SLOT: u64 = 512 * 0x1000;
+
 /// Addresses in this many pages, in turn.
-fn addresses(pages: u64) -> Vec<u64> {
-    trace(|i| ((i % pages) << 12) | scattered(i) >> 52)
+fn addresses(pages: u64, apart: u64) -> Vec<u64> {
+    trace(|i| (i % pages * apart) | scattered(i) >> 52)
 }
 
-/// Three tables: pages 0 and 1 are mapped, with every permission, A and D.
+/// Three tables: pages 0, 1 and 512 are mapped, with every permission, A and D.
 fn tables() -> Vec<u8> {
     let mut memory = vec![0; 16384];
     let entries = [
         (0x1000, 0x801),
         (0x2000, 0xC01),
+        (0x2008, 0xC01),
         (0x3000, 0x14CF),
         (0x3008, 0x18CF),
     ];
@@ -49,20 +54,21 @@ impl Guest {
     }
 }
 
-/// Each state has its pages in the cache before it is timed. The library is told the privilege and
-/// mstatus, too, which the original does not take.
-macro_rules! hits {
-    ($name:literal, $translate:ident, $pages:literal) => {{
+/// Each state was asked for its pages before it is timed, so that they are in the cache, unless they
+/// have one slot: then each call walks. The library is told the privilege and mstatus, too, which the
+/// original does not take.
+macro_rules! translations {
+    ($name:literal, $translate:ident, $pages:literal, $apart:ident, $reads:literal) => {{
         let (satp, mode, mstatus) = std::hint::black_box((SATP, PrivMode::S, MSTATUS));
         let memory = tables();
         let mut port = Mmu::new();
-        for address in [0, 0x1000, 0, 0x1000] {
+        for address in [0, $apart, 0, $apart] {
             port.$translate(address, satp, mode, mstatus, &memory).expect("mapped");
         }
-        let hit = port.$translate(0, satp, mode, mstatus, &memory).expect("mapped");
-        assert_eq!(hit.reads, 0);
+        let again = port.$translate(0, satp, mode, mstatus, &memory).expect("mapped");
+        assert_eq!(again.reads, $reads);
         ways!(
-            $name, addresses($pages), address,
+            $name, addresses($pages, $apart), address,
             library: port, |mmu| mmu.$translate(address, satp, mode, mstatus, &memory).expect("mapped").address,
             original: Guest::new(), fn(guest: &mut Guest, address: u64 = address, satp: u64 = satp) -> Result<u64, MmuFault> {
                 guest.mmu.$translate(address, satp, &mut guest.bus)
@@ -72,26 +78,15 @@ macro_rules! hits {
     }};
 }
 
-/// What keeps nothing walks each time, here by three entries.
-fn walks() {
-    let (satp, mode, mstatus) = std::hint::black_box((SATP, PrivMode::S, MSTATUS));
-    ways!(
-        "readable, by three reads", addresses(2), address,
-        library: tables(), |memory| Mmu::translate_readable(address, satp, mode, mstatus, memory).expect("mapped").address,
-        original: Guest::new(), fn(guest: &mut Guest, address: u64 = address, satp: u64 = satp) -> Option<u64> {
-            Original::translate_readable(address, satp, &mut guest.bus)
-        },
-        seen: |answer| answer.expect("mapped")
-    );
-}
-
 pub fn rows() {
-    hits!("load, by shortcut", translate_load, 1);
-    hits!("load, by slot", translate_load, 2);
-    hits!("store, by shortcut", translate_store, 1);
-    hits!("store, by slot", translate_store, 2);
-    hits!("fetch, by slot", translate_fetch, 2);
-    walks();
+    translations!("load, by shortcut", translate_load, 1, BESIDE, 0);
+    translations!("load, by slot", translate_load, 2, BESIDE, 0);
+    translations!("store, by shortcut", translate_store, 1, BESIDE, 0);
+    translations!("store, by slot", translate_store, 2, BESIDE, 0);
+    translations!("fetch, by slot", translate_fetch, 2, BESIDE, 0);
+    translations!("load, by walk", translate_load, 2, ONE_SLOT, 3);
+    translations!("store, by walk", translate_store, 2, ONE_SLOT, 3);
+    translations!("fetch, by walk", translate_fetch, 2, ONE_SLOT, 3);
     ways!(
         "flush", [(); CALLS], (),
         library: Mmu::new(), |mmu| mmu.flush(),

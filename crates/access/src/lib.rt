@@ -130,17 +130,15 @@ impl Access {
     fn is_marked(self, leaf: u64) -> bool
         ensures { λ r. ⌜ r ≡ marked (self .kind) leaf ⌝ }
     {
-        let kind = self.kind;
-        match kind {
-            Kind::Fetch => (leaf >> 6) % 2 == 1,
-            Kind::Load => (leaf >> 6) % 2 == 1,
-            Kind::Store => {
-                if (leaf >> 6) % 2 == 1 {
-                    (leaf >> 7) % 2 == 1
-                } else {
-                    false
-                }
+        if (leaf >> 6) % 2 == 1 {
+            let kind = self.kind;
+            match kind {
+                Kind::Fetch => true,
+                Kind::Load => true,
+                Kind::Store => (leaf >> 7) % 2 == 1,
             }
+        } else {
+            false
         }
     }
 }
