@@ -6,10 +6,10 @@ use Prim.Native.Nat.{ℕ, _*_, _%_, _^_, _<_}
 use native.Mathlib.Nat.{mul-one, mod-eq-of-lt}
 use native.Mathlib.Omega.{arith}
 use lib.Bits.{bitAnd, bitOr, and-zero-r}
+use lib.Dec.{eqb}
 use Rattle.answers.specs.Answer.{Answer, done, refused}
 use Rattle.answers.specs.Bits.{bits}
 use Rattle.answers.proofs.Determined.{same-value}
-use Rattle.answers.proofs.Orders.{by-test}
 use Rattle.csr_list.specs.List.{placeOf}
 use Rattle.csr.specs.Modes.{isS}
 use Rattle.csr.specs.Satp.{supported}
@@ -17,7 +17,6 @@ use Rattle.csr.specs.Views.{every, writeThrough}
 use Rattle.csr.specs.Registers.{mstatusIn, wordAt, newWord}
 use Rattle.csr.specs.declared.PrivMode.{PrivMode}
 use Rattle.csr.proofs.Rules.{all-of}
-use lib.Dec.{eqb}
 
 -- what was done was not refused
 done-so : (closed : Bool) {x n : ℕ} → _≡_ {A = Answer ℕ} (cond closed (refused 3) (done x)) (done n) → x ≡ n

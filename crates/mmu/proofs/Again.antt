@@ -10,7 +10,7 @@ use lib.ListN.{length, getD, set, length-set, length-replicate}
 use lib.Seq.{getD-set-same}
 use Rattle.answers.specs.Answer.{Answer, done}
 use Rattle.answers.proofs.Determined.{same-value}
-use Rattle.answers.proofs.Orders.{by-test, and-right}
+use Rattle.answers.proofs.Orders.{by-test}
 use Rattle.access.specs.Allowed.{allows}
 use Rattle.walk.specs.Walk.{Reached, found, lost, walkable, canonical, levels, trailOf}
 use Rattle.access.specs.declared.Kind.{Kind}

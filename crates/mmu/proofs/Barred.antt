@@ -1,6 +1,6 @@
 -- What may not be asked for, whatever was done before: no condition is on the history. A hit asks neither for the mode that a walk asked for nor for
 -- the address's upper bits; so no slot and no shortcut may ever lead a page that no walk reaches. Assumes nothing.
-use mathlib.Core.Path.{_≡_, refl, sym, ap, _∙_}
+use mathlib.Core.Path.{_≡_, sym, ap, _∙_}
 use mathlib.Core.Bool.{Bool, true, false, not, _&&_}
 use mathlib.Core.List.{List, [], _∷_}
 use Prim.Native.Nat.{ℕ, zero, suc, _-_, _%_, _^_, _<_}

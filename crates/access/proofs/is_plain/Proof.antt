@@ -7,7 +7,7 @@ use borrow.Author.Tests.{eqb-true, eqb-false}
 use lib.Dec.{eqb}
 use Rattle.answers.proofs.Orders.{false-true}
 use Rattle.csr.specs.Modes.{modeOf}
-use Rattle.access.specs.Flags.{isR, isW, isX, isA, isD}
+use Rattle.access.specs.Flags.{isR, isW, isA, isD}
 use Rattle.access.specs.Asked.{isMprv}
 use Rattle.access.specs.Plain.{ownPage, plain}
 use Rattle.access.specs.declared.Kind.{Kind}

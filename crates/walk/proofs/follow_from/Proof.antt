@@ -1,6 +1,5 @@
 -- `walk::follow_from` meets its contract. Assumes nothing.
 use mathlib.Core.Path.{refl, sym, _∙_}
-use native.Mathlib.Omega.{arith}
 use Rattle.walk.specs.Walk.{trailOf}
 use borrow.Author.Needs.{needs}
 use Rattle.walk.proofs.follow_from.Statement.{statement}

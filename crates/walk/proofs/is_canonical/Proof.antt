@@ -1,6 +1,6 @@
 -- `walk::is_canonical` meets its contract: bits 63 to 38 are all 0, or all 1. Assumes nothing.
 use mathlib.Core.Path.{_≡_, sym, ap, _∙_}
-use mathlib.Core.Bool.{true, false}
+use mathlib.Core.Bool.{true}
 use native.Mathlib.Omega.{arith}
 use Prim.Native.Nat.{ℕ, _-_, _/_, _%_, _^_, _<_}
 use borrow.Author.Tests.{eq-eqb, ne-eqb, eqb-true, eqb-false}

@@ -1,7 +1,7 @@
 -- `access::Access::allows` meets its contract. Assumes nothing.
-use mathlib.Core.Path.{_≡_, sym, ap, ap₂, _∙_}
-use mathlib.Core.Bool.{Bool, true, false, _&&_}
-use Rattle.access.specs.Allowed.{opens, permits, marked, allows}
+use mathlib.Core.Path.{sym, ap, ap₂, _∙_}
+use mathlib.Core.Bool.{Bool, _&&_}
+use Rattle.access.specs.Allowed.{permits, marked, allows}
 use borrow.Author.Needs.{needs}
 use Rattle.access.proofs.Access.allows.Statement.{statement}
 use Rattle.access.proofs.Access.allows.Tie as tie
