@@ -1,5 +1,6 @@
--- What may not be asked for, whatever was done before: no condition is on the history. A hit asks neither for the mode that a walk asked for nor for
--- the address's upper bits; so no slot and no shortcut may ever lead a page that no walk reaches. Assumes nothing.
+-- What may not be asked for, whatever was done before: no condition is on the history. A satp that names no tables is turned away before the cache is
+-- asked. A hit does not look at the address's upper bits, so that no slot and no shortcut may ever be for a page whose addresses are not canonical.
+-- Assumes nothing.
 use mathlib.Core.Path.{_≡_, sym, ap, _∙_}
 use mathlib.Core.Bool.{Bool, true, false, not, _&&_}
 use mathlib.Core.List.{List, [], _∷_}
