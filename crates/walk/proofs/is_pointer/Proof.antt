@@ -6,23 +6,14 @@ use Prim.Native.Nat.{ℕ, _+_, _*_, _/_, _%_, _^_, _<_}
 use native.Mathlib.Nat.{mod-lt}
 use borrow.Author.Tests.{eqb-true, eqb-false}
 use lib.Dec.{eqb}
-use lib.Pow.{mod-pow-add, shr-mod}
+use lib.Pow.{shr-mod}
 use Rattle.answers.specs.Bits.{bits}
 use Rattle.answers.proofs.Orders.{by-test}
 use Rattle.access.specs.Flags.{isV, isR, isW, isX}
 use Rattle.walk.specs.Entries.{valid, leaf, pointer}
+use Rattle.walk.proofs.Flags.{lowest, low-four}
 use Rattle.walk.proofs.is_pointer.Statement.{statement}
 use Rattle.walk.proofs.is_pointer.Tie as tie
-
--- V, R, W and X are the low four bits
-summed : (n l m v r w x : ℕ) → n ≡ x * 8 + l → l ≡ w * 4 + m → m ≡ r * 2 + v → n ≡ v + r * 2 + w * 4 + x * 8
-summed n l m v r w x e f g = omega arith
-
-low-four : (e : ℕ) → e % 16 ≡ e % 2 + bits 1 1 e * 2 + bits 2 2 e * 4 + bits 3 3 e * 8
-low-four e = summed (e % 16) (e % 8) (e % 4) (e % 2) (bits 1 1 e) (bits 2 2 e) (bits 3 3 e) (mod-pow-add e 1 3) (mod-pow-add e 1 2) (mod-pow-add e 1 1)
-
-lowest : (e : ℕ) → bits 0 0 e ≡ e % 2
-lowest e = omega arith
 
 -- V alone leads on, if nothing above the page number is set
 only-first : (v r w x : ℕ) → v < 2 → v + r * 2 + w * 4 + x * 8 ≡ 1 → (v ≡ 1) × (r ≡ 0) × (w ≡ 0) × (x ≡ 0)
