@@ -80,7 +80,7 @@
 //! # Ok::<(), TranslationError>(())
 //! ```
 //!
-//! What the manual refuses is a page fault. Neither A nor D is ever set here: a guest's kernel does it,
+//! The manual refuses these, and each is a page fault. Neither A nor D is ever set here: a guest's kernel does it,
 //! where a page without them faults.
 //!
 //! ```
