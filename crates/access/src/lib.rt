@@ -1,4 +1,6 @@
 // What is asked of a page, and whether its leaf entry allows it: the privilege checks, which mmu.rs leaves out.
+#![tactic(auto)]
+
 ghost use Rattle.std.specs.Prelude.{◌≡◌};
 ghost use Rattle.csr.specs.Modes.{mode_of, is_m};
 ghost use Rattle.access.specs.Asked.{lends, effective_mode, access_of};
@@ -7,7 +9,7 @@ ghost use Rattle.access.specs.Plain.{plain};
 
 use csr::{Csr, PrivMode};
 
-#[derive(Drop)]
+#[derive(Clone, Copy)]
 pub enum Kind {
     Fetch,
     Load,
@@ -15,7 +17,7 @@ pub enum Kind {
 }
 
 // What is asked for: the kind, and what is in force at the call, of which the mode is the effective one.
-#[derive(Drop)]
+#[derive(Clone, Copy)]
 pub struct Access {
     pub kind: Kind,
     pub mode: PrivMode,

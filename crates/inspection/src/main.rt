@@ -1,4 +1,6 @@
 // Runs the cases of document 01's inspection list that carry no star, and writes each with what is asked and what is found.
+#![tactic(auto)]
+
 ghost use Rattle.std.specs.Prelude.{◌≡◌};
 ghost use Rattle.answers.specs.Bits.{low};
 

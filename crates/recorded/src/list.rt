@@ -3,7 +3,7 @@
 ghost use Rattle.std.specs.Prelude.{◌<◌, ◌≤◌, length};
 
 // A number in the list, if there is one: how many are found, 1 or 0, and where the rest of the line begins.
-#[derive(Drop)]
+#[derive(Clone, Copy)]
 struct Number {
     found: u64,
     value: u64,

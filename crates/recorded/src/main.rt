@@ -1,5 +1,7 @@
 // Replays the recorded answers of the original: calls the library on the inputs of each line of the list and holds what it answers to the
 // line. The list says how it was made, and what its columns are.
+#![tactic(auto)]
+
 mod account;
 mod arithmetic;
 mod causes;

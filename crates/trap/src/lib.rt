@@ -1,8 +1,10 @@
 // Why an instruction traps, and what a step comes to: trap.rs.
+#![tactic(auto)]
+
 ghost use Rattle.std.specs.Prelude.{◌≡◌};
 ghost use Rattle.trap.specs.Causes.{cause};
 
-#[derive(Drop)]
+#[derive(Clone, Copy)]
 pub enum TrapCause {
     InstructionAddressMisaligned,
     IllegalInstruction(u32),
@@ -31,7 +33,7 @@ impl TrapCause {
     }
 }
 
-#[derive(Drop)]
+#[derive(Clone, Copy)]
 pub enum StepResult {
     Ok,
     Trap(TrapCause),
