@@ -1,0 +1,12 @@
+-- `system_bus::read_doubleword` meets its contract: what `locate` found says which case of the definition holds. Assumes nothing.
+use Rattle.system_bus.proofs.Places.{fits, no_place, read_done}
+use Rattle.system_bus.proofs.read_doubleword.Goals as goal
+
+pub eight-requires : goal.eight-requires
+eight-requires c = fits 8 _ _ c.locate.ensures c.in-Value.is
+
+pub returns-in-Value : goal.returns-in-Value
+returns-in-Value c = read_done 8 _ _ c.locate.ensures c.in-Value.is c.eight.ensures
+
+pub returns-in-Refused : goal.returns-in-Refused
+returns-in-Refused c = no_place 8 _ _ c.locate.ensures _ c.in-Refused.is
