@@ -5,5 +5,5 @@ use Rattle.extensions.proofs.amo_w.Goals as goal
 
 pub returns : goal.returns
 returns c =
-    let fits : c.args.memory-value % 2 ^ 32 ≡ c.args.memory-value = omega arith
-    in cc (fits, commutes 32 32 refl (omega arith) c.args.op c.args.memory-value c.args.src)
+    let fits : c.args.memory_value % 2 ^ 32 ≡ c.args.memory_value = omega arith
+    in cc (fits, commutes 32 32 refl (omega arith) c.args.op c.args.memory_value c.args.src)

@@ -13,8 +13,8 @@ nonzero_div-q c =
 
 pub returns-then-lhs-rhs : goal.returns-then-lhs-rhs
 returns-then-lhs-rhs c =
-    div_agree c.args.lhs c.args.rhs c.ranges.lhs.fits c.ranges.rhs.fits c.if-rhs-eq0.false c.magnitude.result c.magnitude-2.result c.magnitude.ok c.magnitude.ensures c.magnitude-2.ensures c.if-lhs-rhs.true
+    div_agree c.args.lhs c.args.rhs c.ranges.lhs.fits c.ranges.rhs.fits c.if-rhs-eq0.false c.magnitude.result c.magnitude-2.result c.magnitude.type_inv c.magnitude.ensures c.magnitude-2.ensures c.if-lhs-rhs.true
 
 pub returns-else-lhs-rhs : goal.returns-else-lhs-rhs
 returns-else-lhs-rhs c =
-    c.negate.ensures ∙ div_differ c.args.lhs c.args.rhs c.ranges.lhs.fits c.ranges.rhs.fits c.if-rhs-eq0.false c.magnitude.result c.magnitude-2.result c.magnitude.ok c.magnitude.ensures c.magnitude-2.ensures c.if-lhs-rhs.false
+    c.negate.ensures ∙ div_differ c.args.lhs c.args.rhs c.ranges.lhs.fits c.ranges.rhs.fits c.if-rhs-eq0.false c.magnitude.result c.magnitude-2.result c.magnitude.type_inv c.magnitude.ensures c.magnitude-2.ensures c.if-lhs-rhs.false

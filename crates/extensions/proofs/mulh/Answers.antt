@@ -16,4 +16,4 @@ returns-else-rhs-lt9223372036854775808 c =
     let la : c.args.lhs < 2 ^ 64 = c.ranges.lhs.fits
     in let lb : c.args.rhs < 2 ^ 64 = c.ranges.rhs.fits
     in rw (whole c.args.lhs la, whole c.args.rhs lb)
-    (less_by (signed 64 c.args.lhs) c.args.rhs c.wrapping_sub_u64.result c.if-rhs-lt9223372036854775808.false lb c.wrapping_sub_u64.type_inv (rw (low_signed 64 c.args.lhs la) (c.wrapping_sub_u64.ensures ∙ rw (whole c.args.lhs la, whole c.args.rhs lb) at c.mulhsu-high.ensures)))
+    (less_by (signed 64 c.args.lhs) c.args.rhs c.wrapping_sub_u64.result c.if-rhs-lt9223372036854775808.false lb c.wrapping_sub_u64.type_inv (rw (low_signed 64 c.args.lhs la) (c.wrapping_sub_u64.ensures.value ∙ rw (whole c.args.lhs la, whole c.args.rhs lb) at c.mulhsu-high.ensures)))

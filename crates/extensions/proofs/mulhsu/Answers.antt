@@ -17,4 +17,4 @@ returns-else-lhs-lt9223372036854775808 c =
     let la : c.args.lhs < 2 ^ 64 = c.ranges.lhs.fits
     in let lb : c.args.rhs < 2 ^ 64 = c.ranges.rhs.fits
     in rw (whole c.args.lhs la, whole c.args.rhs lb, *ℤ_comm (signed 64 c.args.lhs) (pos c.args.rhs))
-    (less_by (pos c.args.rhs) c.args.lhs c.wrapping_sub_u64.result c.if-lhs-lt9223372036854775808.false la c.wrapping_sub_u64.type_inv (rw (whole c.args.rhs lb) (c.wrapping_sub_u64.ensures ∙ rw (whole c.args.lhs la, whole c.args.rhs lb, mul_comm c.args.lhs c.args.rhs) at c.mulhu-high.ensures)))
+    (less_by (pos c.args.rhs) c.args.lhs c.wrapping_sub_u64.result c.if-lhs-lt9223372036854775808.false la c.wrapping_sub_u64.type_inv (rw (whole c.args.rhs lb) (c.wrapping_sub_u64.ensures.value ∙ rw (whole c.args.lhs la, whole c.args.rhs lb, mul_comm c.args.lhs c.args.rhs) at c.mulhu-high.ensures)))

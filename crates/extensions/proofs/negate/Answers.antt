@@ -3,4 +3,4 @@ use Rattle.extensions.proofs.Registers.{negated}
 use Rattle.extensions.proofs.negate.Goals as goal
 
 pub returns : goal.returns
-returns c = negated c.wrapping_sub_u64.result c.args.x c.wrapping_sub_u64.type_inv c.wrapping_sub_u64.ensures
+returns c = negated c.wrapping_sub_u64.result c.args.x c.wrapping_sub_u64.type_inv c.wrapping_sub_u64.ensures.value

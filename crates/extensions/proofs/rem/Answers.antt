@@ -13,8 +13,8 @@ nonzero_rem-m c =
 
 pub returns-then-lhs-lt9223372036854775808 : goal.returns-then-lhs-lt9223372036854775808
 returns-then-lhs-lt9223372036854775808 c =
-    rem_p c.args.lhs c.args.rhs c.ranges.lhs.fits c.ranges.rhs.fits c.if-rhs-eq0.false c.magnitude.result c.magnitude-2.result c.magnitude.ok c.magnitude.ensures c.magnitude-2.ensures c.if-lhs-lt9223372036854775808.true
+    rem_p c.args.lhs c.args.rhs c.ranges.lhs.fits c.ranges.rhs.fits c.if-rhs-eq0.false c.magnitude.result c.magnitude-2.result c.magnitude.type_inv c.magnitude.ensures c.magnitude-2.ensures c.if-lhs-lt9223372036854775808.true
 
 pub returns-else-lhs-lt9223372036854775808 : goal.returns-else-lhs-lt9223372036854775808
 returns-else-lhs-lt9223372036854775808 c =
-    c.negate.ensures ∙ rem_n c.args.lhs c.args.rhs c.ranges.lhs.fits c.ranges.rhs.fits c.if-rhs-eq0.false c.magnitude.result c.magnitude-2.result c.magnitude.ok c.magnitude.ensures c.magnitude-2.ensures c.if-lhs-lt9223372036854775808.false
+    c.negate.ensures ∙ rem_n c.args.lhs c.args.rhs c.ranges.lhs.fits c.ranges.rhs.fits c.if-rhs-eq0.false c.magnitude.result c.magnitude-2.result c.magnitude.type_inv c.magnitude.ensures c.magnitude-2.ensures c.if-lhs-lt9223372036854775808.false

@@ -15,5 +15,5 @@ overflow_mul-a0-2 c =
 
 pub returns : goal.returns
 returns c =
-    c.wrapping_add_u64.ensures
-    ∙ lower (c.args.lhs * c.args.rhs) (c.args.lhs / 2 ^ 32 * (c.args.rhs / 2 ^ 32)) (c.args.lhs / 2 ^ 32 * (c.args.rhs % 2 ^ 32)) (c.args.lhs % 2 ^ 32 * (c.args.rhs / 2 ^ 32)) (c.args.lhs % 2 ^ 32 * (c.args.rhs % 2 ^ 32)) (halves c.args.lhs c.args.rhs) c.wrapping_add_u64-cross.result c.wrapping_add_u64-cross.ensures
+    c.wrapping_add_u64.ensures.value
+    ∙ lower (c.args.lhs * c.args.rhs) (c.args.lhs / 2 ^ 32 * (c.args.rhs / 2 ^ 32)) (c.args.lhs / 2 ^ 32 * (c.args.rhs % 2 ^ 32)) (c.args.lhs % 2 ^ 32 * (c.args.rhs / 2 ^ 32)) (c.args.lhs % 2 ^ 32 * (c.args.rhs % 2 ^ 32)) (halves c.args.lhs c.args.rhs) c.wrapping_add_u64-cross.result c.wrapping_add_u64-cross.ensures.value

@@ -8,5 +8,5 @@ nonzero_rem-address c = size_positive c.args.level c.size_at.ensures
 
 pub returns : goal.returns
 returns c =
-    c.wrapping_add_u64.ensures
+    c.wrapping_add_u64.ensures.value
     ∙ ap₂ (λ (n s : ℕ). (n * 4096 + c.args.address % s) % 2 ^ 64) c.page_in-page.ensures.0 c.size_at.ensures
