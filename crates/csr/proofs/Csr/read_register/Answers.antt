@@ -4,4 +4,4 @@ use Rattle.csr.proofs.Files.{read_here}
 use Rattle.csr.proofs.Csr.read_register.Goals as goal
 
 pub returns : goal.returns
-returns c = read_here c.args.t1.words _ c.place_of-place.ensures.0 refl c.read_word.ensures
+returns c = read_here c.args.self.words _ c.place_of-place.ensures.0 refl c.read_word.ensures
