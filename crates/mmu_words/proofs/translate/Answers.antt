@@ -15,4 +15,4 @@ returns c =
     let call = call_of c.args.kind c.args.memory.now c.args.address c.args.satp (mode_of c.args.privilege) c.args.mstatus
     in let x = c.new-access.ensures ∙ ap (λ (m : PrivMode). access_of c.args.kind m c.args.mstatus) c.from_bits.ensures
     in let o = outcome_read c.args.mmu.now call x c.shortcut_of-shortcut.ensures c.slot_place.ensures.0 c.slot_in-slot.ensures c.epoch_in-epoch.ensures c.decide-outcome.ensures
-    in subst (λ (x : Outcome). PutsOutcome x c.args.kind c.args.address c.args.satp c.args.mmu.now c.args.out.now c.put_outcome.result c.put_outcome.new.0 c.put_outcome.new.1.1.1.1.1.0) o c.put_outcome.ensures
+    in subst (λ (x : Outcome). PutsOutcome x c.args.kind c.args.address c.args.satp c.args.mmu.now c.args.out.now c.put_outcome.result c.put_outcome.new.mmu c.put_outcome.new.out) o c.put_outcome.ensures

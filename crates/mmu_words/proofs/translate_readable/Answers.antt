@@ -12,4 +12,4 @@ use Rattle.mmu_words.proofs.translate_readable.Goals as goal
 pub returns : goal.returns
 returns c =
     let e = c.translate_readable-answer.ensures ∙ ap (λ (m : PrivMode). translation (readable (call_of Load c.args.memory.now c.args.address c.args.satp m c.args.mstatus))) c.from_bits-mode.ensures
-    in subst (λ (x : Answer ℕ). GavePair x c.args.out.now c.answer_in.result c.answer_in.new.1.0) e c.answer_in.ensures
+    in subst (λ (x : Answer ℕ). GavePair x c.args.out.now c.answer_in.result c.answer_in.new.out) e c.answer_in.ensures
