@@ -1,5 +1,6 @@
 -- `host::fields::rv_sign_extend` meets its contract: what the answer of `sign_extend` tells. Assumes nothing.
 use mathlib.Core.Path.{◌≡◌, sym, ap, ◌∙◌, subst⁻¹}
+use borrow.Author.Rules.{rules}
 use lib.IntN.{ℤ}
 use Rattle.answers.specs.Refusals.{number_of}
 use Rattle.answers.specs.Answer.{done, refused}
@@ -13,7 +14,7 @@ pub returns-in-Value : goal.returns-in-Value
 returns-in-Value c =
     let t : done c.in-Value.extended ≡ sign_extended c.args.value c.args.bits =
     ap extension (sym c.in-Value.is) ∙ c.sign_extend.ensures ∙ ap (λ (z : ℤ). sign_extended z c.args.bits) (read_back c.args.value c.ranges.value.sfits)
-    in subst⁻¹ (λ (z : ℤ). Gave (sign_extended c.args.value c.args.bits) c.args.out.now 0 z) (read_back c.in-Value.extended c.known_told-1.given.0.1) (gave_value c.args.out.now t)
+    in subst⁻¹ (λ (z : ℤ). Gave (sign_extended c.args.value c.args.bits) c.args.out.now 0 z) (read_back c.in-Value.extended (search rules)) (gave_value c.args.out.now t)
 
 pub returns-in-Refused : goal.returns-in-Refused
 returns-in-Refused c =

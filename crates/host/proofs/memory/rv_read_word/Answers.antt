@@ -6,4 +6,4 @@ use Rattle.answers.specs.Gave.{Gave}
 use Rattle.host.proofs.memory.rv_read_word.Goals as goal
 
 pub returns : goal.returns
-returns c = subst (λ (t : Answer ℕ). Gave t c.args.out.now c.give.result c.give.new.1.0) c.read_word.ensures c.give.ensures
+returns c = subst (λ (t : Answer ℕ). Gave t c.args.out.now c.give.result c.give.new.out) c.read_word.ensures c.give.ensures
