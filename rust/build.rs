@@ -1,5 +1,5 @@
 //! Tells cargo where the static library lies: in the folder that `LEAVNNJAR_LIB` names, else where
-//! `rt staticlib host` writes it. Where it cannot be linked, says why: the linker would not.
+//! `library` beside this file puts it. Where it cannot be linked, says why: the linker would not.
 
 use std::env;
 use std::path::PathBuf;
@@ -46,7 +46,7 @@ fn library() -> Result<PathBuf, String> {
     }
     if !folder.join("libhost.a").is_file() {
         return Err(format!(
-            "no libhost.a in {}: make it by `rt staticlib host` at the top of the repository, \
+            "no libhost.a in {}: make it by `rust/library` at the top of the repository, \
              or name the folder of one by LEAVNNJAR_LIB",
             folder.display()
         ));

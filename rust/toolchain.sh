@@ -74,12 +74,14 @@ make_library() {
     fi
     LEAVNNJAR_LIB=$top/target/staticlib
     local library=$LEAVNNJAR_LIB/libhost.a
-    if [ ! -e "$library" ] || [ -n "$(find "$top/crates" "$top/crates.txt" -newer "$library" -print -quit)" ]; then
+    if [ ! -e "$library" ] || [ -n "$(find "$top/crates" "$top/crates.txt" -name out -prune -o -newer "$library" -print -quit)" ]; then
         echo "making $library"
-        (cd "$top" && rt staticlib host) >"$built/staticlib.log" 2>&1 || {
+        (cd "$top/crates/host" && rt lib) >"$built/staticlib.log" 2>&1 || {
             tail -20 "$built/staticlib.log" >&2
-            fail "rt staticlib host failed"
+            fail "rt lib failed in crates/host"
         }
+        mkdir -p "$LEAVNNJAR_LIB"
+        cp "$top/crates/host/out/libhost.a" "$library"
     fi
 }
 
