@@ -93,7 +93,7 @@ function say_passed(answer) { print name " passes (" types ")" answer }
 
 # A function of the host ends where its statement or its body begins.
 function read_host(text,   n, i, parts) {
-    n = split(text, parts, /#\[no_mangle\] pub extern "C" fn /)
+    n = split(text, parts, /#\[unsafe\(no_mangle\)\] pub extern "C" fn /)
     for (i = 1; i <= n; i++) {
         if (match(parts[i], /extern|no_mangle/)) fault("not read: " substr(parts[i], RSTART, 60))
         if (i == 1) continue

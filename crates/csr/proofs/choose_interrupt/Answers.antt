@@ -1,11 +1,7 @@
 -- `csr::choose_interrupt` meets its contract: where nothing is pending both groups are empty; else they are looked at in turn. Assumes nothing.
 use mathlib.Core.Path.{◌≡◌, sym, ap, ◌∙◌}
-use mathlib.Core.Bool.{Bool, not, ◌&&◌}
-use lib.Bits.{bit_and}
-use lib.Dec.{eqb}
+use mathlib.Core.Bool.{Bool, ◌&&◌}
 use Rattle.answers.specs.Answer.{done}
-use Rattle.csr.specs.Views.{except}
-use Rattle.csr.specs.Interrupts.{for_m, for_s}
 use Rattle.csr.proofs.Rules.{ready_positive}
 use Rattle.csr.proofs.choose_interrupt.Goals as goal
 

@@ -6,9 +6,6 @@ use lib.IntN.{ℤ}
 use Rattle.answers.specs.Bits.{signed, low}
 use Rattle.answers.proofs.Signs.{signed_below}
 use Rattle.answers.proofs.Shifts.{read_back}
-use Rattle.decode.proofs.extend.Reads as reads
-use Rattle.decode.proofs.extend.Lts as lts
-use Rattle.decode.proofs.shifted.Reads as shifted-reads
 use Rattle.decode.proofs.extend.Goals as goal
 
 -- src/lib.rt:198:1

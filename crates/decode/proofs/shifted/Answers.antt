@@ -4,8 +4,6 @@ use mir.Syntax.{w64}
 use mir.Val.{of_z}
 use Rattle.answers.specs.Bits.{signed}
 use Rattle.answers.proofs.Shifts.{by_shifts, of_machine}
-use Rattle.decode.proofs.shifted.Reads as reads
-use Rattle.decode.proofs.shifted.Lts as lts
 use Rattle.decode.proofs.shifted.Goals as goal
 
 -- src/lib.rt:189:1

@@ -5,9 +5,6 @@ use lib.IntN.{ℤ}
 use Rattle.answers.specs.Answer.{done}
 use Rattle.answers.specs.Bits.{signed, low}
 use Rattle.answers.proofs.Shifts.{read_back}
-use Rattle.decode.proofs.sign_extend.Reads as reads
-use Rattle.decode.proofs.sign_extend.Lts as lts
-use Rattle.decode.proofs.shifted.Reads as shifted-reads
 use Rattle.decode.proofs.sign_extend.Goals as goal
 
 -- src/lib.rt:180:9

@@ -1,5 +1,5 @@
 -- `extensions::mulhsu` meets its contract: where the left operand is negative, the upper half is less by the right one. Assumes nothing.
-use Rattle.std.proofs.Common.{◌*◌, ◌^◌, ◌<◌, pos, ◌∙◌, mul_comm}
+use Rattle.std.proofs.Common.{◌^◌, ◌<◌, pos, ◌∙◌, mul_comm}
 use lib.IntN.{*ℤ_comm}
 use Rattle.answers.specs.Bits.{signed}
 use Rattle.answers.proofs.Signs.{signed_below}

@@ -1,6 +1,6 @@
 -- `walk::follow` meets its contract. The loop's invariant: what is left of the trail leads where the whole one leads. The measure is the number
 -- of levels left. Assumes nothing.
-use Rattle.std.proofs.Common.{◌≡◌, ◌+◌, ◌-◌, ◌^◌, ◌<◌}
+use Rattle.std.proofs.Common.{◌≡◌, ◌+◌, ◌^◌, ◌<◌}
 use Rattle.walk.specs.Walk.{levels}
 use Rattle.walk.proofs.Steps.{Onward}
 use Rattle.walk.proofs.follow.Given as goal
