@@ -8,88 +8,91 @@ use answers::{Acceptance, Reading, Refusal};
 use csr::{Csr, Pending, PrivMode};
 use decode::Instruction;
 use gpr::{Gpr, Reading32};
-use libc::STDOUT_FILENO;
 use mmu::{Mmu, Translated, Translation};
+use std::io;
 
-fn main() {
-    immediates();
-    atomics();
-    status();
-    interrupts();
-    floats();
-    walks();
-    stores();
+fn main(rt: HostRuntime) -> io::Result<()> {
+    immediates(&rt)?;
+    atomics(&rt)?;
+    status(&rt)?;
+    interrupts(&rt)?;
+    floats(&rt)?;
+    walks(&rt)?;
+    stores(&rt)
 }
 
-fn immediates() {
+fn immediates(rt: &impl Print) -> io::Result<()> {
     say(
-        b"U-immediate of 0x80000037",
+        rt,
+        "U-immediate of 0x80000037",
         0xFFFF_FFFF_8000_0000,
         two_complement(Instruction(0x8000_0037).imm_u()),
-    );
+    )
 }
 
-fn atomics() {
+fn atomics(rt: &impl Print) -> io::Result<()> {
     let signed = extensions::amomax_w(0xFFFF_FFFF, 1);
     say(
-        b"amomax_w of 0xFFFFFFFF and 1, returned",
+        rt,
+        "amomax_w of 0xFFFFFFFF and 1, returned",
         0xFFFF_FFFF_FFFF_FFFF,
         signed.0,
-    );
-    say(b"amomax_w of 0xFFFFFFFF and 1, new", 1, signed.1 as u64);
+    )?;
+    say(rt, "amomax_w of 0xFFFFFFFF and 1, new", 1, signed.1 as u64)?;
     let unsigned = extensions::amomaxu_w(0xFFFF_FFFF, 1);
     say(
-        b"amomaxu_w of 0xFFFFFFFF and 1, new",
+        rt,
+        "amomaxu_w of 0xFFFFFFFF and 1, new",
         0xFFFF_FFFF,
         unsigned.1 as u64,
-    );
+    )
 }
 
-fn status() {
+fn status(rt: &impl Print) -> io::Result<()> {
     let written = Csr::new().write_register(Csr::MSTATUS, 0xFFFF_FFFF_FFFF_FFFF, PrivMode::M);
     let file = written.csr;
     answered(
-        b"mstatus written all ones",
+        rt,
+        "mstatus written all ones",
         0x8000_000A_007F_FFEA,
         file.read_register(Csr::MSTATUS, PrivMode::M),
-    );
+    )?;
     answered(
-        b"sstatus then",
+        rt,
+        "sstatus then",
         0x8000_0002_000D_E762,
         file.read_register(Csr::SSTATUS, PrivMode::M),
-    );
+    )
 }
 
-fn interrupts() {
+fn interrupts(rt: &impl Print) -> io::Result<()> {
     let bit = Csr::MIP_STIP;
     let mstatus = 0xA_0000_0000;
     match csr::choose_interrupt(bit, bit, bit, mstatus, PrivMode::M) {
-        Pending::Bit(n) => say(b"delegated bit 5 in M, where none is asked", 0, n),
-        Pending::Nothing => tell(b"delegated bit 5 in M: asked none, found none\n"),
+        Pending::Bit(n) => say(rt, "delegated bit 5 in M, where none is asked", 0, n)?,
+        Pending::Nothing => tell(rt, "delegated bit 5 in M: asked none, found none")?,
     }
     match csr::choose_interrupt(bit, bit, bit, mstatus, PrivMode::U) {
-        Pending::Bit(n) => say(b"delegated bit 5 in U", 5, n),
-        Pending::Nothing => tell(b"delegated bit 5 in U: asked 0x5, found none\n"),
+        Pending::Bit(n) => say(rt, "delegated bit 5 in U", 5, n),
+        Pending::Nothing => tell(rt, "delegated bit 5 in U: asked 0x5, found none"),
     }
 }
 
-fn floats() {
+fn floats(rt: &impl Print) -> io::Result<()> {
     let written = Gpr::new(0).write_f(1, 0xFFFF_FFFE_3F80_0000);
     let registers = written.gpr;
     match registers.read_f32(1) {
-        Reading32::Value(value) => {
-            say(
-                b"float register 0xFFFFFFFE3F800000 read as 32 bits",
-                0x7FC0_0000,
-                value as u64,
-            );
-        }
-        Reading32::Refused(refusal) => {
-            refused(
-                b"float register 0xFFFFFFFE3F800000 read as 32 bits",
-                refusal,
-            );
-        }
+        Reading32::Value(value) => say(
+            rt,
+            "float register 0xFFFFFFFE3F800000 read as 32 bits",
+            0x7FC0_0000,
+            value as u64,
+        ),
+        Reading32::Refused(refusal) => refused(
+            rt,
+            "float register 0xFFFFFFFE3F800000 read as 32 bits",
+            refusal,
+        ),
     }
 }
 
@@ -100,101 +103,98 @@ const SATP: u64 = 0x8000_0000_0000_0001;
 const MSTATUS: u64 = 0;
 
 // Each on a new cache.
-fn walks() {
+fn walks(rt: &impl Print) -> io::Result<()> {
     let mut memory = [0; 16384];
-    put(&mut memory, 0x1000, 0x4CF);
+    put(rt, &mut memory, 0x1000, 0x4CF)?;
     let unaligned = Mmu::new().translate_load(&memory, 0, SATP, PrivMode::S, MSTATUS);
-    translated(b"0x4CF at 0x1000, load of 0", 13, 0, 1, unaligned);
-    put(&mut memory, 0x1000, 0x401);
+    translated(rt, "0x4CF at 0x1000, load of 0", 13, 0, 1, unaligned)?;
+    put(rt, &mut memory, 0x1000, 0x401)?;
     let circular = Mmu::new().translate_load(&memory, 0, SATP, PrivMode::S, MSTATUS);
-    translated(b"0x401 at 0x1000, load of 0", 13, 0, 3, circular);
+    translated(rt, "0x401 at 0x1000, load of 0", 13, 0, 3, circular)
 }
 
-fn stores() {
+fn stores(rt: &impl Print) -> io::Result<()> {
     let mut memory = [0; 16384];
-    put(&mut memory, 0x1000, 0x801);
-    put(&mut memory, 0x2000, 0xC01);
-    put(&mut memory, 0x3000, 0x144F);
-    put(&mut memory, 0x3008, 0x184F);
-    store_calls(&memory);
+    put(rt, &mut memory, 0x1000, 0x801)?;
+    put(rt, &mut memory, 0x2000, 0xC01)?;
+    put(rt, &mut memory, 0x3000, 0x144F)?;
+    put(rt, &mut memory, 0x3008, 0x184F)?;
+    store_calls(rt, &memory)
 }
 
 // A leaf without D: every store faults, by request 07, and nothing is kept of it.
-fn store_calls(memory: &[u8]) {
+fn store_calls(rt: &impl Print, memory: &[u8]) -> io::Result<()> {
     let first = Mmu::new().translate_store(memory, 0x123, SATP, PrivMode::S, MSTATUS);
-    translated(b"0x144F at 0x3000, store to 0x123", 15, 0x123, 3, first);
+    translated(rt, "0x144F at 0x3000, store to 0x123", 15, 0x123, 3, first)?;
     let cache = first.mmu;
     let again = cache.translate_store(memory, 0x123, SATP, PrivMode::S, MSTATUS);
-    translated(b"store to 0x123 again", 15, 0x123, 3, again);
+    translated(rt, "store to 0x123 again", 15, 0x123, 3, again)?;
     let cache = again.mmu;
     let other = cache.translate_store(memory, 0x1000, SATP, PrivMode::S, MSTATUS);
-    translated(b"0x184F at 0x3008, store to 0x1000", 15, 0x1000, 3, other);
+    translated(
+        rt,
+        "0x184F at 0x3008, store to 0x1000",
+        15,
+        0x1000,
+        3,
+        other,
+    )?;
     let cache = other.mmu;
     let walked = cache.translate_store(memory, 0x123, SATP, PrivMode::S, MSTATUS);
-    translated(b"store to 0x123 after that", 15, 0x123, 3, walked);
+    translated(rt, "store to 0x123 after that", 15, 0x123, 3, walked)
 }
 
 // A page table entry.
-fn put(memory: &mut [u8], address: u64, entry: u64) {
+fn put(rt: &impl Print, memory: &mut [u8], address: u64, entry: u64) -> io::Result<()> {
     match system_bus::write_doubleword(memory, address, entry) {
-        Acceptance::Done => (),
-        Acceptance::Refused(refusal) => refused(b"page table entry", refusal),
+        Acceptance::Done => Ok(()),
+        Acceptance::Refused(refusal) => refused(rt, "page table entry", refusal),
     }
 }
 
 // One case, in a line.
-fn say(case: &[u8], asked: u64, found: u64) {
-    io::write_all(STDOUT_FILENO, case);
-    io::write_all(STDOUT_FILENO, b": asked 0x");
-    io::print_hex(STDOUT_FILENO, asked, 1);
-    io::write_all(STDOUT_FILENO, b", found 0x");
-    io::print_hex(STDOUT_FILENO, found, 1);
-    io::write_all(STDOUT_FILENO, b"\n");
+fn say(rt: &impl Print, case: &str, asked: u64, found: u64) -> io::Result<()> {
+    println!(rt; "{case}: asked 0x{asked:x}, found 0x{found:x}")
 }
 
-fn tell(line: &[u8]) {
-    io::write_all(STDOUT_FILENO, line);
+fn tell(rt: &impl Print, line: &str) -> io::Result<()> {
+    println!(rt; "{line}")
 }
 
-fn answered(case: &[u8], asked: u64, answer: Reading) {
+fn answered(rt: &impl Print, case: &str, asked: u64, answer: Reading) -> io::Result<()> {
     match answer {
-        Reading::Value(found) => say(case, asked, found),
-        Reading::Refused(refusal) => refused(case, refusal),
+        Reading::Value(found) => say(rt, case, asked, found),
+        Reading::Refused(refusal) => refused(rt, case, refusal),
     }
 }
 
 // A translation's number, 0 or the fault's; then the address, and the entries read.
-fn translated(case: &[u8], number: u64, value: u64, reads: u64, call: Translated) {
-    io::write_all(STDOUT_FILENO, case);
-    io::write_all(STDOUT_FILENO, b": asked ");
-    outcome(number, value, reads);
-    io::write_all(STDOUT_FILENO, b", found ");
+fn translated(
+    rt: &impl Print,
+    case: &str,
+    number: u64,
+    value: u64,
+    reads: u64,
+    call: Translated,
+) -> io::Result<()> {
+    print!(rt; "{case}: asked ")?;
+    outcome(rt, number, value, reads)?;
+    print!(rt; ", found ")?;
     let answer = call.answer;
     match answer {
-        Translation::At { address, reads: n } => outcome(0, address, n),
-        Translation::Fault { fault, reads: n } => outcome(fault.mcause(), fault.tval(), n),
-        Translation::Refused(refusal) => {
-            io::write_all(STDOUT_FILENO, b"refusal, no. ");
-            io::print_decimal(STDOUT_FILENO, refusal.number() as u64);
-        }
+        Translation::At { address, reads: n } => outcome(rt, 0, address, n)?,
+        Translation::Fault { fault, reads: n } => outcome(rt, fault.mcause(), fault.tval(), n)?,
+        Translation::Refused(refusal) => print!(rt; "refusal, no. {}", refusal.number())?,
     }
-    io::write_all(STDOUT_FILENO, b"\n");
+    println!(rt)
 }
 
-fn outcome(number: u64, value: u64, reads: u64) {
-    io::write_all(STDOUT_FILENO, b"no. ");
-    io::print_decimal(STDOUT_FILENO, number);
-    io::write_all(STDOUT_FILENO, b" 0x");
-    io::print_hex(STDOUT_FILENO, value, 1);
-    io::write_all(STDOUT_FILENO, b" reads ");
-    io::print_decimal(STDOUT_FILENO, reads);
+fn outcome(rt: &impl Print, number: u64, value: u64, reads: u64) -> io::Result<()> {
+    print!(rt; "no. {number} 0x{value:x} reads {reads}")
 }
 
-fn refused(case: &[u8], refusal: Refusal) {
-    io::write_all(STDOUT_FILENO, case);
-    io::write_all(STDOUT_FILENO, b": refused, no. ");
-    io::print_decimal(STDOUT_FILENO, refusal.number() as u64);
-    io::write_all(STDOUT_FILENO, b"\n");
+fn refused(rt: &impl Print, case: &str, refusal: Refusal) -> io::Result<()> {
+    println!(rt; "{case}: refused, no. {}", refusal.number())
 }
 
 // The bits of a signed number.

@@ -12,7 +12,7 @@ struct Number {
 
 // A line but for the words that it changed, which begin at `rest`. What is not there is 0. The shape says which columns are there: its
 // first hexadecimal digit is 1, 3, 7 or f where there are one, two, three or four inputs, its second the same for the answers.
-#[derive(Drop)]
+#[derive(Clone, Copy)]
 pub(crate) struct Line {
     pub letter: u8,
     pub function: u64,

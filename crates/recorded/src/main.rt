@@ -2,6 +2,8 @@
 // line. The list says how it was made, and what its columns are.
 #![tactic(auto)]
 
+ghost use Rattle.std.specs.Prelude.{◌≤◌, length, IfOk};
+
 mod account;
 mod arithmetic;
 mod causes;
@@ -14,31 +16,48 @@ mod told;
 mod translation;
 
 use account::Account;
-use libc::STDIN_FILENO;
 use list::Line;
+use std::io;
+use std::io::Read;
 use told::Answer;
 
 // Room for a list almost twice as long. It is lent as the array that it is, of which no proof is asked how long it is.
-fn main() {
+fn main(rt: HostRuntime) -> io::Result<()> {
     let mut text = [0u8; 1048576];
-    replay_input(&mut text);
+    replay_input(&rt, &mut text)
 }
 
-fn replay_input(text: &mut [u8; 1048576]) {
-    let length = io::read_full(STDIN_FILENO, text);
-    replay_first(text, length);
+fn replay_input(rt: &(impl Input + Print), text: &mut [u8; 1048576]) -> io::Result<()> {
+    let length = read_full(&mut rt.reader(), text)?;
+    replay_first(rt, text, length)
+}
+
+// Reads until the text is full or the input ends. How many bytes stand at the text's start.
+fn read_full(input: &mut impl Read, text: &mut [u8]) -> io::Result<usize>
+    ensures { IfOk result (λ n. n ≤ length text.new) }
+{
+    let mut done = 0;
+    while done < text.len() {
+        let count = input.read(&mut text[done..])?;
+        if count == 0 {
+            return Ok(done);
+        }
+        done += count;
+    }
+    Ok(done)
 }
 
 // The first bytes of the text are the list.
-fn replay_first(text: &[u8], length: usize) {
+fn replay_first(rt: &impl Print, text: &[u8], length: usize) -> io::Result<()> {
     if length <= text.len() {
-        replay(&text[0..length]);
+        replay(rt, &text[0..length])?;
     }
+    Ok(())
 }
 
 // The words of each state stand here as the list says that they are. A call begins with them, and what it leaves is held to them, all of
 // it: so the next call goes on from what the last one left, or from what it should have left.
-fn replay(list: &[u8]) {
+fn replay(rt: &impl Print, list: &[u8]) -> io::Result<()> {
     let mut gpr = [0u64; 65];
     let mut csr = [0u64; csr_list::WORDS];
     let mut bytes = [0u64; 4096];
@@ -70,18 +89,25 @@ fn replay(list: &[u8]) {
             &mut hart,
         );
         number = std::num::wrapping_add_u64(number, 1);
-        account = taken(account, line, told, number, &list[at..next]);
+        account = taken(rt, account, line, told, number, &list[at..next])?;
         at = next;
     }
-    account::report(account);
+    account::report(rt, account)
 }
 
 // Takes a line into the account. '!' ends a module.
-fn taken(account: Account, line: Line, told: Answer, number: u64, text: &[u8]) -> Account {
+fn taken(
+    rt: &impl Print,
+    account: Account,
+    line: Line,
+    told: Answer,
+    number: u64,
+    text: &[u8],
+) -> io::Result<Account> {
     if line.letter == b'!' {
-        return account::close(account, name_in(text));
+        return account::close(rt, account, name_in(text));
     }
-    account::note(account, line, told, number, text)
+    account::note(rt, account, line, told, number, text)
 }
 
 // What the library answers.

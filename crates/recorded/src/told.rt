@@ -3,7 +3,7 @@ use crate::list::Line;
 use answers::{Acceptance, Reading};
 
 // The shape is that of the line, or one of the two below.
-#[derive(Drop)]
+#[derive(Clone, Copy)]
 pub(crate) struct Answer {
     pub shape: u64,
     pub x: u64,

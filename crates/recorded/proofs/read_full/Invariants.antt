@@ -1,0 +1,9 @@
+-- `recorded::read_full`: each turn has more of the text filled.
+use Rattle.std.proofs.Common.{◌-◌, ◌≤◌, length}
+use Rattle.recorded.proofs.read_full.Given as goal
+
+abbrev pub invariant-loop-done : goal.invariant-loop-done
+invariant-loop-done g l = l.done ≤ length l.text
+
+abbrev pub decreases-loop-done : goal.decreases-loop-done
+decreases-loop-done g l = length l.text - l.done
