@@ -2,7 +2,8 @@
 // line. The list says how it was made, and what its columns are.
 #![tactic(auto)]
 
-ghost use Rattle.std.specs.Prelude.{◌≤◌, length, IfOk};
+ghost use Rattle.std.specs.Prelude.{◌<◌, ◌≤◌, length, take, IfOk};
+ghost use Rattle.std.specs.Io.KnownBytes.{Consumes, IsAtEnd};
 
 mod account;
 mod arithmetic;
@@ -32,9 +33,11 @@ fn replay_input(rt: &(impl Input + Print), text: &mut [u8; 1048576]) -> io::Resu
     replay_first(rt, text, length)
 }
 
-// Reads until the text is full or the input ends. How many bytes stand at the text's start.
-fn read_full(input: &mut impl Read, text: &mut [u8]) -> io::Result<usize>
-    ensures { IfOk result (λ n. n ≤ length text.new) }
+// Reads until the text is full or the input ends. How many bytes stand at the text's start: those that the input gave.
+fn read_full<R: Read>(input: &mut R, text: &mut [u8]) -> io::Result<usize>
+    ensures within { IfOk result (λ n. n ≤ length text.new) }
+    ensures bytes { IfOk result (λ n. Consumes (R.remaining input.old) (R.remaining input.new) (take n text.new)) }
+    ensures end { IfOk result (λ n. n < length text.new → IsAtEnd (R.remaining input.new)) }
 {
     let mut done = 0;
     while done < text.len() {

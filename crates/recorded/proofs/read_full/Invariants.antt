@@ -1,9 +1,11 @@
--- `recorded::read_full`: each turn has more of the text filled.
-use Rattle.std.proofs.Common.{◌-◌, ◌≤◌, length}
+-- `recorded::read_full`: what stands below `done` is what the input gave, and each turn has more of the text filled.
+use Rattle.std.proofs.Common.{◌-◌, ◌≤◌, length, take}
+use Rattle.std.specs.Io.KnownBytes.{Consumes}
 use Rattle.recorded.proofs.read_full.Given as goal
 
 abbrev pub invariant-loop-done : goal.invariant-loop-done
-invariant-loop-done g l = l.done ≤ length l.text
+invariant-loop-done g l =
+    (l.done ≤ length l.text) × Consumes (g.R.Read.remaining l.initial.input) (g.R.Read.remaining l.input) (take l.done l.text)
 
 abbrev pub decreases-loop-done : goal.decreases-loop-done
 decreases-loop-done g l = length l.text - l.done
