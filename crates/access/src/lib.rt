@@ -1,7 +1,8 @@
 // What is asked of a page, and whether its leaf entry allows it: the privilege checks, which mmu.rs leaves out.
 #![tactic(auto)]
 
-ghost use Rattle.std.specs.Prelude.{◌≡◌};
+ghost use Rattle.std.specs.Prelude.{◌≡◌, ◌<◌, eqb};
+ghost use Rattle.answers.specs.Bits.{bits};
 ghost use Rattle.csr.specs.Modes.{mode_of, is_m};
 ghost use Rattle.access.specs.Asked.{lends, effective_mode, access_of};
 ghost use Rattle.access.specs.Allowed.{shared, opens, permits, marked, allows};
@@ -31,8 +32,7 @@ fn is_lent(kind: Kind, mstatus: u64) -> bool
 {
     match kind {
         Kind::Fetch => false, // always the hart's own
-        Kind::Load => mstatus & Csr::MSTATUS_MPRV != 0,
-        Kind::Store => mstatus & Csr::MSTATUS_MPRV != 0,
+        Kind::Load | Kind::Store => mstatus & Csr::MSTATUS_MPRV != 0,
     }
 }
 
@@ -40,9 +40,30 @@ fn effective_mode(kind: Kind, mode: PrivMode, mstatus: u64) -> PrivMode
     ensures { result ≡ effective_mode kind mode mstatus }
 {
     if is_lent(kind, mstatus) {
-        return PrivMode::from_bits(mstatus >> 11);
+        PrivMode::from_bits(mstatus >> 11)
+    } else {
+        mode
     }
-    mode
+}
+
+// Where the flags of a leaf entry stand.
+const R: u32 = 1;
+
+const W: u32 = 2;
+
+const X: u32 = 3;
+
+const U: u32 = 4;
+
+const A: u32 = 6;
+
+const D: u32 = 7;
+
+fn has(leaf: u64, flag: u32) -> bool
+    requires { flag < 64 }
+    ensures { result ≡ eqb (bits flag flag leaf) 1 }
+{
+    (leaf >> flag) % 2 == 1
 }
 
 impl Access {
@@ -62,39 +83,23 @@ impl Access {
     pub fn is_machine(self) -> bool
         ensures { result ≡ is_m self.mode }
     {
-        let mode = self.mode;
-        match mode {
-            PrivMode::U => false,
-            PrivMode::S => false,
-            PrivMode::M => true,
-        }
+        self.mode == PrivMode::M
     }
 
     // Whether a leaf allows it, by whose page it is, by what it may be used for and by its marks.
+    #[tactic(auto, unfolding(crate::specs::Allowed::allows))]
     pub fn allows(self, leaf: u64) -> bool
         ensures { result ≡ allows self leaf }
     {
-        if self.is_open(leaf) {
-            if self.is_permitted(leaf) {
-                return self.is_marked(leaf);
-            }
-        }
-        false
+        self.is_open(leaf) && (self.is_permitted(leaf) && self.is_marked(leaf))
     }
 
     fn is_open(self, leaf: u64) -> bool
         ensures { result ≡ opens self leaf }
     {
-        let mode = self.mode;
-        match mode {
-            PrivMode::U => (leaf >> 4) % 2 == 1,
-            PrivMode::S => {
-                if (leaf >> 4) % 2 == 1 {
-                    self.is_shared()
-                } else {
-                    true
-                }
-            }
+        match self.mode {
+            PrivMode::U => has(leaf, U),
+            PrivMode::S => !has(leaf, U) || self.is_shared(),
             PrivMode::M => false,
         }
     }
@@ -103,30 +108,19 @@ impl Access {
     fn is_shared(self) -> bool
         ensures { result ≡ shared self.kind self.sum }
     {
-        let kind = self.kind;
-        match kind {
+        match self.kind {
             Kind::Fetch => false, // whatever SUM is
-            Kind::Load => self.sum,
-            Kind::Store => self.sum,
+            Kind::Load | Kind::Store => self.sum,
         }
     }
 
     fn is_permitted(self, leaf: u64) -> bool
         ensures { result ≡ permits self.kind self.mxr leaf }
     {
-        let kind = self.kind;
-        match kind {
-            Kind::Fetch => (leaf >> 3) % 2 == 1,
-            Kind::Load => {
-                if (leaf >> 1) % 2 == 1 {
-                    true
-                } else if self.mxr {
-                    (leaf >> 3) % 2 == 1
-                } else {
-                    false
-                }
-            }
-            Kind::Store => (leaf >> 2) % 2 == 1,
+        match self.kind {
+            Kind::Fetch => has(leaf, X),
+            Kind::Load => has(leaf, R) || self.mxr && has(leaf, X),
+            Kind::Store => has(leaf, W),
         }
     }
 
@@ -134,15 +128,9 @@ impl Access {
     fn is_marked(self, leaf: u64) -> bool
         ensures { result ≡ marked self.kind leaf }
     {
-        if (leaf >> 6) % 2 == 1 {
-            let kind = self.kind;
-            match kind {
-                Kind::Fetch => true,
-                Kind::Load => true,
-                Kind::Store => (leaf >> 7) % 2 == 1,
-            }
-        } else {
-            false
+        match self.kind {
+            Kind::Fetch | Kind::Load => has(leaf, A),
+            Kind::Store => has(leaf, A) && has(leaf, D),
         }
     }
 }

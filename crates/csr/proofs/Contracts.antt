@@ -6,6 +6,9 @@ use Rattle.csr.proofs.Determined.{choices, files, writings}
 use Rattle.answers.proofs.Strong.{equation}
 use Rattle.csr.proofs as fn
 
+PrivModePartialEq-eq : Strong _ fn.PrivModePartialEq.eq.Kinds.ps fn.PrivModePartialEq.eq.Kinds.r fn.PrivModePartialEq.eq.Reads.Pre fn.PrivModePartialEq.eq.Reads.Post
+PrivModePartialEq-eq = equation (λ κs a e f. refl)
+
 PrivMode-from_bits : Strong _ fn.PrivMode.from_bits.Kinds.ps fn.PrivMode.from_bits.Kinds.r fn.PrivMode.from_bits.Reads.Pre fn.PrivMode.from_bits.Reads.Post
 PrivMode-from_bits = equation (λ κs a e f. refl)
 
@@ -21,11 +24,11 @@ Csr-write_register = record { total = λ κs a. tt; determined = λ κs a x y e 
 Csr-pending_interrupt : Strong _ fn.Csr.pending_interrupt.Kinds.ps fn.Csr.pending_interrupt.Kinds.r fn.Csr.pending_interrupt.Reads.Pre fn.Csr.pending_interrupt.Reads.Post
 Csr-pending_interrupt = record { total = λ κs a. tt; determined = λ κs a x y e f p q. (choices x y (p ∙ sym q), refl) }
 
-read_word : Strong _ fn.read_word.Kinds.ps fn.read_word.Kinds.r fn.read_word.Reads.Pre fn.read_word.Reads.Post
-read_word = record { total = λ κs a. tt; determined = λ κs a x y e f p q. (readings x y (p ∙ sym q), refl) }
+Hart-read_word : Strong _ fn.Hart.read_word.Kinds.ps fn.Hart.read_word.Kinds.r fn.Hart.read_word.Reads.Pre fn.Hart.read_word.Reads.Post
+Hart-read_word = record { total = λ κs a. tt; determined = λ κs a x y e f p q. (readings x y (p ∙ sym q), refl) }
 
-write_word : Strong _ fn.write_word.Kinds.ps fn.write_word.Kinds.r fn.write_word.Reads.Pre fn.write_word.Reads.Post
-write_word = record { total = λ κs a. tt; determined = λ κs a x y e f p q. (readings x y (p ∙ sym q), refl) }
+Hart-write_word : Strong _ fn.Hart.write_word.Kinds.ps fn.Hart.write_word.Kinds.r fn.Hart.write_word.Reads.Pre fn.Hart.write_word.Reads.Post
+Hart-write_word = record { total = λ κs a. tt; determined = λ κs a x y e f p q. (readings x y (p ∙ sym q), refl) }
 
-choose_interrupt : Strong _ fn.choose_interrupt.Kinds.ps fn.choose_interrupt.Kinds.r fn.choose_interrupt.Reads.Pre fn.choose_interrupt.Reads.Post
-choose_interrupt = record { total = λ κs a. tt; determined = λ κs a x y e f p q. (choices x y (p ∙ sym q), refl) }
+Hart-choose_interrupt : Strong _ fn.Hart.choose_interrupt.Kinds.ps fn.Hart.choose_interrupt.Kinds.r fn.Hart.choose_interrupt.Reads.Pre fn.Hart.choose_interrupt.Reads.Post
+Hart-choose_interrupt = record { total = λ κs a. tt; determined = λ κs a x y e f p q. (choices x y (p ∙ sym q), refl) }

@@ -27,6 +27,12 @@ module _ (k w : ℕ) where
   pub not_full : (bit_and w (2 ^ (2 + k) - 2 ^ k) ≡ 3 * 2 ^ k → ⊥) → eqb (w / 2 ^ k % 4) 3 ≡ false
   not_full f = ne_eqb _ 3 (λ e. f (under_mask 2 k w 3 e))
 
+  pub all_full : eqb (bit_and w (2 ^ (2 + k) - 2 ^ k)) (3 * 2 ^ k) ≡ eqb (w / 2 ^ k % 4) 3
+  all_full =
+      by_test (eqb (bit_and w (2 ^ (2 + k) - 2 ^ k)) (3 * 2 ^ k))
+      (λ e. e ∙ sym (full (eqb-true _ _ e)))
+      (λ e. e ∙ sym (not_full (eqb-false _ _ e)))
+
   -- one bit
   pub on : (bit_and w (2 ^ (1 + k) - 2 ^ k) ≡ 0 → ⊥) → eqb (w / 2 ^ k % 2) 1 ≡ true
   on f =

@@ -1,7 +1,7 @@
 -- The contract of each public function takes anything and allows one outcome. Assumes nothing.
 use mathlib.Core.Path.{refl, sym, ◌∙◌}
 use Rattle.answers.specs.Strong.{Strong}
-use Rattle.decode.proofs.Determined.{extensions}
+use Rattle.answers.proofs.Determined.{readings}
 use Rattle.answers.proofs.Strong.{equation}
 use Rattle.decode.proofs as fn
 
@@ -69,4 +69,4 @@ CompressedInstruction-rs2 : Strong _ fn.CompressedInstruction.rs2.Kinds.ps fn.Co
 CompressedInstruction-rs2 = equation (λ κs a e f. refl)
 
 sign_extend : Strong _ fn.sign_extend.Kinds.ps fn.sign_extend.Kinds.r fn.sign_extend.Reads.Pre fn.sign_extend.Reads.Post
-sign_extend = record { total = λ κs a. tt; determined = λ κs a x y e f p q. (extensions x y (p ∙ sym q), refl) }
+sign_extend = record { total = λ κs a. tt; determined = λ κs a x y e f p q. (readings x y (p ∙ sym q), refl) }

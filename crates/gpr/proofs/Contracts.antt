@@ -2,7 +2,7 @@
 use mathlib.Core.Path.{refl, sym, ◌∙◌}
 use Rattle.answers.specs.Strong.{Strong}
 use Rattle.answers.proofs.Determined.{readings}
-use Rattle.gpr.proofs.Determined.{readings32, writings}
+use Rattle.gpr.proofs.Determined.{writings}
 use Rattle.answers.proofs.Strong.{equation}
 use Rattle.gpr.proofs as fn
 
@@ -31,7 +31,7 @@ Gpr-write_f32 : Strong _ fn.Gpr.write_f32.Kinds.ps fn.Gpr.write_f32.Kinds.r fn.G
 Gpr-write_f32 = record { total = λ κs a. tt; determined = λ κs a x y e f p q. (writings x y (p.0 ∙ sym q.0) (p.1 ∙ sym q.1), refl) }
 
 Gpr-read_f32 : Strong _ fn.Gpr.read_f32.Kinds.ps fn.Gpr.read_f32.Kinds.r fn.Gpr.read_f32.Reads.Pre fn.Gpr.read_f32.Reads.Post
-Gpr-read_f32 = record { total = λ κs a. tt; determined = λ κs a x y e f p q. (readings32 x y (p ∙ sym q), refl) }
+Gpr-read_f32 = record { total = λ κs a. tt; determined = λ κs a x y e f p q. (readings x y (p ∙ sym q), refl) }
 
 show : Strong _ fn.show.Kinds.ps fn.show.Kinds.r fn.show.Reads.Pre fn.show.Reads.Post
 show = equation (λ κs a e f. refl)

@@ -2,17 +2,17 @@
 ghost use Rattle.std.specs.Prelude.{◌≡◌};
 ghost use Rattle.answers.specs.Gave.{Gave, Found};
 ghost use Rattle.csr.specs.Modes.{mode_of};
-ghost use Rattle.csr.specs.Registers.{reset_words, read_register, new_word, write_register, pending_in};
+ghost use Rattle.csr.specs.Registers.{reset_words, hart_in, read_register, new_word, write_register, pending_in};
 
-use answers::Reading;
-use csr::{Csr, Pending, PrivMode};
-use csr_list::{MIDELEG_WORD, MIE_WORD, MIP_WORD, MISA_WORD, MSTATUS_WORD};
+use crate::given::give;
+use csr::{Csr, Hart, PrivMode};
+use csr_list::{MIDELEG_WORD, MIE_WORD, MIP_WORD, MISA_WORD, MSTATUS_WORD, Place};
 
 #[unsafe(no_mangle)]
 pub extern "C" fn rv_csr_new(csr: &mut [u64; csr_list::WORDS])
     ensures { csr.new ≡ reset_words }
 {
-    *csr = [0u64; csr_list::WORDS];
+    *csr = [0; csr_list::WORDS];
     csr[MSTATUS_WORD] = Csr::MSTATUS_RESET;
     csr[MISA_WORD] = Csr::MISA_RESET;
 }
@@ -26,17 +26,8 @@ pub extern "C" fn rv_csr_read(
 ) -> u32
     ensures { Gave (read_register csr.now address (mode_of privilege)) out.old result out.new }
 {
-    let place = csr_list::place_in(csr_list::entry_of(address));
-    let at = place.word;
-    let view = place.view;
-    let mode = PrivMode::from_bits(privilege);
-    match csr::read_word(view, csr[at], csr[MIDELEG_WORD], csr[MSTATUS_WORD], mode) {
-        Reading::Value(value) => {
-            *out = value;
-            0
-        }
-        Reading::Refused(refusal) => refusal.number(),
-    }
+    let Place { word, view } = csr_list::place_in(csr_list::entry_of(address));
+    give(hart(csr, privilege).read_word(view, csr[word]), out)
 }
 
 #[unsafe(no_mangle)]
@@ -48,23 +39,13 @@ pub extern "C" fn rv_csr_write(
 ) -> u32
     ensures { (result ≡ (new_word csr.old address value (mode_of privilege)).number) × (csr.new ≡ write_register csr.old address value (mode_of privilege)) }
 {
-    let place = csr_list::place_in(csr_list::entry_of(address));
-    let at = place.word;
-    let view = place.view;
-    let mode = PrivMode::from_bits(privilege);
-    match csr::write_word(
-        view,
-        csr[at],
-        value,
-        csr[MIDELEG_WORD],
-        csr[MSTATUS_WORD],
-        mode,
-    ) {
-        Reading::Value(word) => {
-            csr[at] = word;
+    let Place { word, view } = csr_list::place_in(csr_list::entry_of(address));
+    match hart(csr, privilege).write_word(view, csr[word], value) {
+        Ok(taken) => {
+            csr[word] = taken;
             0
         }
-        Reading::Refused(refusal) => refusal.number(),
+        Err(refusal) => refusal.number(),
     }
 }
 
@@ -80,18 +61,21 @@ pub extern "C" fn rv_csr_pending(
     if csr[MIP_WORD] & csr[MIE_WORD] == 0 {
         return false;
     }
-    let mode = PrivMode::from_bits(privilege);
-    match csr::choose_interrupt(
-        csr[MIP_WORD],
-        csr[MIE_WORD],
-        csr[MIDELEG_WORD],
-        csr[MSTATUS_WORD],
-        mode,
-    ) {
-        Pending::Bit(bit) => {
+    match hart(csr, privilege).choose_interrupt(csr[MIP_WORD], csr[MIE_WORD]) {
+        Some(bit) => {
             *out = bit;
             true
         }
-        Pending::Nothing => false,
+        None => false,
+    }
+}
+
+fn hart(csr: &[u64; csr_list::WORDS], privilege: u64) -> Hart
+    ensures { result ≡ hart_in csr.now (mode_of privilege) }
+{
+    Hart {
+        mideleg: csr[MIDELEG_WORD],
+        mstatus: csr[MSTATUS_WORD],
+        mode: PrivMode::from_bits(privilege),
     }
 }

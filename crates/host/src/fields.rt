@@ -5,7 +5,8 @@ ghost use Rattle.answers.specs.Gave.{Gave};
 ghost use Rattle.decode.specs.Immediates.{imm_i, imm_s, imm_b, imm_u, imm_j};
 ghost use Rattle.decode.specs.Extension.{sign_extended};
 
-use decode::{CompressedInstruction, Extension, Instruction};
+use crate::given::give;
+use decode::{CompressedInstruction, Instruction};
 
 #[unsafe(no_mangle)]
 pub extern "C" fn rv_opcode(word: u32) -> u32
@@ -158,11 +159,5 @@ pub extern "C" fn rv_c_rs2(half: u16) -> usize
 pub extern "C" fn rv_sign_extend(value: i64, bits: u32, out: &mut i64) -> u32
     ensures { Gave (sign_extended value bits) out.old result out.new }
 {
-    match decode::sign_extend(value, bits) {
-        Extension::Value(extended) => {
-            *out = extended;
-            0
-        }
-        Extension::Refused(refusal) => refusal.number(),
-    }
+    give(decode::sign_extend(value, bits), out)
 }

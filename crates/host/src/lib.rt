@@ -4,6 +4,7 @@
 pub mod arithmetic;
 pub mod control;
 pub mod fields;
+mod given;
 pub mod memory;
 pub mod registers;
 pub mod translation;

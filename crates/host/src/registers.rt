@@ -11,11 +11,7 @@ pub extern "C" fn rv_gpr_new(regs: &mut [u64; 65], pc: u64)
     ensures { regs.new ≡ words_of (reset_gpr pc) }
 {
     *regs = [u64::MAX; 65];
-    let mut i = 0;
-    while i < 32 {
-        regs[i] = 0;
-        i += 1;
-    }
+    regs[..32].fill(0);
     regs[32] = pc;
 }
 

@@ -6,6 +6,9 @@ ghost use Rattle.mmu.specs.Cache.{call_of, readable};
 ghost use Rattle.access.specs.declared.Kind.TheVariants.{Fetch, Load, Store};
 ghost use Rattle.mmu_words.specs.Words.{new_words, flushed_words, GavePair, Translates};
 
+use access::Kind;
+use mmu_words::Asked;
+
 #[unsafe(no_mangle)]
 pub extern "C" fn rv_mmu_new(mmu: &mut [u64; mmu_words::WORDS])
     ensures { mmu.new ≡ new_words }
@@ -32,7 +35,15 @@ pub extern "C" fn rv_translate_fetch(
 ) -> u32
     ensures { Translates (call_of Fetch memory.now address satp (mode_of privilege) mstatus) mmu.old out.old result mmu.new out.new }
 {
-    mmu_words::translate_fetch(mmu, memory, address, satp, privilege, mstatus, out)
+    let asked = Asked {
+        kind: Kind::Fetch,
+        memory,
+        address,
+        satp,
+        privilege,
+        mstatus,
+    };
+    mmu_words::translate(mmu, asked, out)
 }
 
 #[unsafe(no_mangle)]
@@ -47,7 +58,15 @@ pub extern "C" fn rv_translate_load(
 ) -> u32
     ensures { Translates (call_of Load memory.now address satp (mode_of privilege) mstatus) mmu.old out.old result mmu.new out.new }
 {
-    mmu_words::translate_load(mmu, memory, address, satp, privilege, mstatus, out)
+    let asked = Asked {
+        kind: Kind::Load,
+        memory,
+        address,
+        satp,
+        privilege,
+        mstatus,
+    };
+    mmu_words::translate(mmu, asked, out)
 }
 
 #[unsafe(no_mangle)]
@@ -62,7 +81,15 @@ pub extern "C" fn rv_translate_store(
 ) -> u32
     ensures { Translates (call_of Store memory.now address satp (mode_of privilege) mstatus) mmu.old out.old result mmu.new out.new }
 {
-    mmu_words::translate_store(mmu, memory, address, satp, privilege, mstatus, out)
+    let asked = Asked {
+        kind: Kind::Store,
+        memory,
+        address,
+        satp,
+        privilege,
+        mstatus,
+    };
+    mmu_words::translate(mmu, asked, out)
 }
 
 #[unsafe(no_mangle)]
@@ -76,5 +103,13 @@ pub extern "C" fn rv_translate_readable(
 ) -> u32
     ensures { GavePair (translation (readable (call_of Load memory.now address satp (mode_of privilege) mstatus))) out.old result out.new }
 {
-    mmu_words::translate_readable(memory, address, satp, privilege, mstatus, out)
+    let asked = Asked {
+        kind: Kind::Load,
+        memory,
+        address,
+        satp,
+        privilege,
+        mstatus,
+    };
+    mmu_words::translate_readable(asked, out)
 }

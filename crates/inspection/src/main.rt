@@ -4,11 +4,13 @@
 ghost use Rattle.std.specs.Prelude.{◌≡◌};
 ghost use Rattle.answers.specs.Bits.{low};
 
-use answers::{Acceptance, Reading, Refusal};
-use csr::{Csr, Pending, PrivMode};
+use access::Kind;
+use answers::Refusal;
+use csr::{Csr, Hart, PrivMode};
 use decode::Instruction;
-use gpr::{Gpr, Reading32};
-use mmu::{Mmu, Translated, Translation};
+use extensions::Amo;
+use gpr::Gpr;
+use mmu::{Call, Failure, Mmu, Translation};
 use std::io;
 
 fn main(rt: HostRuntime) -> io::Result<()> {
@@ -31,20 +33,25 @@ fn immediates(rt: &impl Print) -> io::Result<()> {
 }
 
 fn atomics(rt: &impl Print) -> io::Result<()> {
-    let signed = extensions::amomax_w(0xFFFF_FFFF, 1);
+    let (returned, signed) = extensions::atomic(Amo::Max, 0xFFFF_FFFF_u32, 1);
     say(
         rt,
         "amomax_w of 0xFFFFFFFF and 1, returned",
         0xFFFF_FFFF_FFFF_FFFF,
-        signed.0,
+        returned,
     )?;
-    say(rt, "amomax_w of 0xFFFFFFFF and 1, new", 1, signed.1 as u64)?;
-    let unsigned = extensions::amomaxu_w(0xFFFF_FFFF, 1);
+    say(
+        rt,
+        "amomax_w of 0xFFFFFFFF and 1, new",
+        1,
+        u64::from(signed),
+    )?;
+    let (_, unsigned) = extensions::atomic(Amo::Maxu, 0xFFFF_FFFF_u32, 1);
     say(
         rt,
         "amomaxu_w of 0xFFFFFFFF and 1, new",
         0xFFFF_FFFF,
-        unsigned.1 as u64,
+        u64::from(unsigned),
     )
 }
 
@@ -68,32 +75,32 @@ fn status(rt: &impl Print) -> io::Result<()> {
 fn interrupts(rt: &impl Print) -> io::Result<()> {
     let bit = Csr::MIP_STIP;
     let mstatus = 0xA_0000_0000;
-    match csr::choose_interrupt(bit, bit, bit, mstatus, PrivMode::M) {
-        Pending::Bit(n) => say(rt, "delegated bit 5 in M, where none is asked", 0, n)?,
-        Pending::Nothing => tell(rt, "delegated bit 5 in M: asked none, found none")?,
+    match delegated(bit, mstatus, PrivMode::M).choose_interrupt(bit, bit) {
+        Some(n) => say(rt, "delegated bit 5 in M, where none is asked", 0, n)?,
+        None => println!(rt; "delegated bit 5 in M: asked none, found none")?,
     }
-    match csr::choose_interrupt(bit, bit, bit, mstatus, PrivMode::U) {
-        Pending::Bit(n) => say(rt, "delegated bit 5 in U", 5, n),
-        Pending::Nothing => tell(rt, "delegated bit 5 in U: asked 0x5, found none"),
+    match delegated(bit, mstatus, PrivMode::U).choose_interrupt(bit, bit) {
+        Some(n) => say(rt, "delegated bit 5 in U", 5, n),
+        None => println!(rt; "delegated bit 5 in U: asked 0x5, found none"),
+    }
+}
+
+fn delegated(mideleg: u64, mstatus: u64, mode: PrivMode) -> Hart {
+    Hart {
+        mideleg,
+        mstatus,
+        mode,
     }
 }
 
 fn floats(rt: &impl Print) -> io::Result<()> {
-    let written = Gpr::new(0).write_f(1, 0xFFFF_FFFE_3F80_0000);
-    let registers = written.gpr;
-    match registers.read_f32(1) {
-        Reading32::Value(value) => say(
-            rt,
-            "float register 0xFFFFFFFE3F800000 read as 32 bits",
-            0x7FC0_0000,
-            value as u64,
-        ),
-        Reading32::Refused(refusal) => refused(
-            rt,
-            "float register 0xFFFFFFFE3F800000 read as 32 bits",
-            refusal,
-        ),
-    }
+    let registers = Gpr::new(0).write_f(1, 0xFFFF_FFFE_3F80_0000).gpr;
+    answered(
+        rt,
+        "float register 0xFFFFFFFE3F800000 read as 32 bits",
+        0x7FC0_0000,
+        registers.read_f32(1).map(u64::from),
+    )
 }
 
 // The root table stands at 0x1000.
@@ -106,11 +113,21 @@ const MSTATUS: u64 = 0;
 fn walks(rt: &impl Print) -> io::Result<()> {
     let mut memory = [0; 16384];
     put(rt, &mut memory, 0x1000, 0x4CF)?;
-    let unaligned = Mmu::new().translate_load(&memory, 0, SATP, PrivMode::S, MSTATUS);
+    let unaligned = load(&memory, 0);
     translated(rt, "0x4CF at 0x1000, load of 0", 13, 0, 1, unaligned)?;
     put(rt, &mut memory, 0x1000, 0x401)?;
-    let circular = Mmu::new().translate_load(&memory, 0, SATP, PrivMode::S, MSTATUS);
+    let circular = load(&memory, 0);
     translated(rt, "0x401 at 0x1000, load of 0", 13, 0, 3, circular)
+}
+
+fn load(memory: &[u8], address: u64) -> Translation {
+    Mmu::new()
+        .translate(asked(Kind::Load, memory, address))
+        .answer
+}
+
+fn asked(kind: Kind, memory: &[u8], address: u64) -> Call {
+    Call::new(kind, memory, address, SATP, PrivMode::S, MSTATUS)
 }
 
 fn stores(rt: &impl Print) -> io::Result<()> {
@@ -124,31 +141,35 @@ fn stores(rt: &impl Print) -> io::Result<()> {
 
 // A leaf without D: every store faults, by request 07, and nothing is kept of it.
 fn store_calls(rt: &impl Print, memory: &[u8]) -> io::Result<()> {
-    let first = Mmu::new().translate_store(memory, 0x123, SATP, PrivMode::S, MSTATUS);
-    translated(rt, "0x144F at 0x3000, store to 0x123", 15, 0x123, 3, first)?;
-    let cache = first.mmu;
-    let again = cache.translate_store(memory, 0x123, SATP, PrivMode::S, MSTATUS);
-    translated(rt, "store to 0x123 again", 15, 0x123, 3, again)?;
-    let cache = again.mmu;
-    let other = cache.translate_store(memory, 0x1000, SATP, PrivMode::S, MSTATUS);
+    let first = Mmu::new().translate(asked(Kind::Store, memory, 0x123));
+    translated(
+        rt,
+        "0x144F at 0x3000, store to 0x123",
+        15,
+        0x123,
+        3,
+        first.answer,
+    )?;
+    let again = first.mmu.translate(asked(Kind::Store, memory, 0x123));
+    translated(rt, "store to 0x123 again", 15, 0x123, 3, again.answer)?;
+    let other = again.mmu.translate(asked(Kind::Store, memory, 0x1000));
     translated(
         rt,
         "0x184F at 0x3008, store to 0x1000",
         15,
         0x1000,
         3,
-        other,
+        other.answer,
     )?;
-    let cache = other.mmu;
-    let walked = cache.translate_store(memory, 0x123, SATP, PrivMode::S, MSTATUS);
-    translated(rt, "store to 0x123 after that", 15, 0x123, 3, walked)
+    let walked = other.mmu.translate(asked(Kind::Store, memory, 0x123));
+    translated(rt, "store to 0x123 after that", 15, 0x123, 3, walked.answer)
 }
 
 // A page table entry.
 fn put(rt: &impl Print, memory: &mut [u8], address: u64, entry: u64) -> io::Result<()> {
-    match system_bus::write_doubleword(memory, address, entry) {
-        Acceptance::Done => Ok(()),
-        Acceptance::Refused(refusal) => refused(rt, "page table entry", refusal),
+    match system_bus::write(memory, address, entry) {
+        Ok(()) => Ok(()),
+        Err(refusal) => refused(rt, "page table entry", refusal),
     }
 }
 
@@ -157,14 +178,15 @@ fn say(rt: &impl Print, case: &str, asked: u64, found: u64) -> io::Result<()> {
     println!(rt; "{case}: asked 0x{asked:x}, found 0x{found:x}")
 }
 
-fn tell(rt: &impl Print, line: &str) -> io::Result<()> {
-    println!(rt; "{line}")
-}
-
-fn answered(rt: &impl Print, case: &str, asked: u64, answer: Reading) -> io::Result<()> {
+fn answered(
+    rt: &impl Print,
+    case: &str,
+    asked: u64,
+    answer: Result<u64, Refusal>,
+) -> io::Result<()> {
     match answer {
-        Reading::Value(found) => say(rt, case, asked, found),
-        Reading::Refused(refusal) => refused(rt, case, refusal),
+        Ok(found) => say(rt, case, asked, found),
+        Err(refusal) => refused(rt, case, refusal),
     }
 }
 
@@ -175,16 +197,15 @@ fn translated(
     number: u64,
     value: u64,
     reads: u64,
-    call: Translated,
+    answer: Translation,
 ) -> io::Result<()> {
     print!(rt; "{case}: asked ")?;
     outcome(rt, number, value, reads)?;
     print!(rt; ", found ")?;
-    let answer = call.answer;
     match answer {
-        Translation::At { address, reads: n } => outcome(rt, 0, address, n)?,
-        Translation::Fault { fault, reads: n } => outcome(rt, fault.mcause(), fault.tval(), n)?,
-        Translation::Refused(refusal) => print!(rt; "refusal, no. {}", refusal.number())?,
+        Ok(found) => outcome(rt, 0, found.address, found.reads)?,
+        Err(Failure::Fault { fault, reads }) => outcome(rt, fault.mcause(), fault.tval(), reads)?,
+        Err(Failure::Refused(refusal)) => print!(rt; "refusal, no. {}", refusal.number())?,
     }
     println!(rt)
 }

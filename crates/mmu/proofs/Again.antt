@@ -19,10 +19,9 @@ use Rattle.access.specs.declared.Access.{Access}
 use Rattle.walk.proofs.Barred.{barred_lost}
 use Rattle.walk.specs.declared.VirtPage.{VirtPage}
 use Rattle.walk.specs.declared.PhysPage.{PhysPage}
-use Rattle.mmu.specs.Answers.{fault_of, without_reads}
+use Rattle.mmu.specs.Answers.{At, fault_of, without_reads}
 use Rattle.mmu.specs.Cache.{slot_of, shortcut_to, empty_slot, new_mmu, Call, page_of, frame_of, in_frame, unpaged, accepts, fresh_walk, live, held, matches, quick, after_walk, look_cache, look, decide, answer_of, zero_slot, slot_at, shortcut_of, with_shortcut, remember, fill, applied, outcome_on, translate, flush}
 use Rattle.mmu.specs.History.{Event, flushed, called, peeked, step, run}
-use Rattle.mmu.specs.declared.Translation.TheVariants.{At}
 use Rattle.mmu.specs.declared.TlbEntry.{TlbEntry}
 use Rattle.mmu.specs.declared.Mmu.{Mmu}
 use Rattle.mmu.proofs.Determined.{code_positive}

@@ -1,6 +1,7 @@
 -- What may not be asked for, whatever was done before: no condition is on the history. A satp that names no tables is turned away before the cache is
 -- asked. A hit does not look at the address's upper bits, so that no slot and no shortcut may ever be for a page whose addresses are not canonical.
 -- Assumes nothing.
+use Rattle.std.specs.Prelude.{Err}
 use mathlib.Core.Path.{◌≡◌, sym, ap, ◌∙◌}
 use mathlib.Core.Bool.{Bool, true, false, not, ◌&&◌}
 use mathlib.Core.List.{List, [], ◌∷◌}
@@ -19,13 +20,12 @@ use Rattle.access.specs.declared.Kind.TheVariants.{Fetch, Load, Store}
 use Rattle.access.specs.declared.Access.{Access}
 use Rattle.walk.specs.declared.VirtPage.{VirtPage}
 use Rattle.walk.specs.declared.PhysPage.{PhysPage}
-use Rattle.mmu.specs.Answers.{fault_of}
+use Rattle.mmu.specs.Answers.{Translation, fault_of}
 use Rattle.mmu.specs.Cache.{virt, no_page, slot_of, shortcut_to, empty_slot, new_mmu, Call, page_of, frame_of, unpaged, accepts, fresh_walk, fresh_count, live, held, matches, quick_kind, quick, look_cache, look, decide, zero_slot, slot_at, shortcut_kind, shortcut_of, with_shortcut, remember, fill, outcome_on, translate, forget, flush}
 use Rattle.mmu.specs.History.{Event, flushed, called, peeked, step, run, paged}
 use Rattle.mmu.specs.declared.Lookup.TheVariants.{Missed}
 use Rattle.mmu.specs.declared.Outcome.TheVariants.{Stay}
-use Rattle.mmu.specs.declared.Translation.{Translation}
-use Rattle.mmu.specs.declared.Translation.TheVariants.{Fault}
+use Rattle.mmu.specs.declared.Failure.TheVariants.{Fault}
 use Rattle.mmu.specs.declared.TlbEntry.{TlbEntry}
 use Rattle.mmu.specs.declared.Shortcut.{Shortcut}
 use Rattle.mmu.specs.declared.Mmu.{Mmu}
@@ -123,7 +123,7 @@ module _ (n : ℕ) (c : Call) (small : c.address < 2 ^ 64) (odd : canonical leve
 
 -- the page fault without a read; nothing is kept of it
 abbrev pub turned_away : Call → Translation
-turned_away c = Fault (fault_of c.access.kind c.address) 0
+turned_away c = Err (Fault (fault_of c.access.kind c.address) 0)
 
 module _ (n : ℕ) (s : Mmu) (c : Call) (p : paged c ≡ true) (bar : askable c.address c.satp ≡ false) where
   walked_away : look (slot_at n s (page_of c.address)) s.epoch (shortcut_of c.access s) c ≡ Missed → outcome_on n s c ≡ Stay (turned_away c)

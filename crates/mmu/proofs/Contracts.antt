@@ -14,6 +14,9 @@ MmuFault-tval = equation (λ κs a e f. refl)
 MmuFault-page_fault : Strong _ fn.MmuFault.page_fault.Kinds.ps fn.MmuFault.page_fault.Kinds.r fn.MmuFault.page_fault.Reads.Pre fn.MmuFault.page_fault.Reads.Post
 MmuFault-page_fault = equation (λ κs a e f. refl)
 
+Call-new : Strong _ fn.Call.new.Kinds.ps fn.Call.new.Kinds.r fn.Call.new.Reads.Pre fn.Call.new.Reads.Post
+Call-new = equation (λ κs a e f. refl)
+
 TlbEntry-empty : Strong _ fn.TlbEntry.empty.Kinds.ps fn.TlbEntry.empty.Kinds.r fn.TlbEntry.empty.Reads.Pre fn.TlbEntry.empty.Reads.Post
 TlbEntry-empty = equation (λ κs a e f. refl)
 
@@ -32,8 +35,8 @@ Shortcut-forget = equation (λ κs a e f. refl)
 address_in : Strong _ fn.address_in.Kinds.ps fn.address_in.Kinds.r fn.address_in.Reads.Pre fn.address_in.Reads.Post
 address_in = equation (λ κs a e f. refl)
 
-decide : Strong _ fn.decide.Kinds.ps fn.decide.Kinds.r fn.decide.Reads.Pre fn.decide.Reads.Post
-decide = record { total = λ κs a. tt; determined = λ κs a x y e f p q. (outcomes x y (p ∙ sym q), refl) }
+Kept-decide : Strong _ fn.Kept.decide.Kinds.ps fn.Kept.decide.Kinds.r fn.Kept.decide.Reads.Pre fn.Kept.decide.Reads.Post
+Kept-decide = record { total = λ κs a. tt; determined = λ κs a x y e f p q. (outcomes x y (p ∙ sym q), refl) }
 
 slot_index : Strong _ fn.slot_index.Kinds.ps fn.slot_index.Kinds.r fn.slot_index.Reads.Pre fn.slot_index.Reads.Post
 slot_index = equation (λ κs a e f. refl)
@@ -47,14 +50,8 @@ Mmu-new = equation (λ κs a e f. refl)
 Mmu-flush : Strong _ fn.Mmu.flush.Kinds.ps fn.Mmu.flush.Kinds.r fn.Mmu.flush.Reads.Pre fn.Mmu.flush.Reads.Post
 Mmu-flush = equation (λ κs a e f. refl)
 
-Mmu-translate_fetch : Strong _ fn.Mmu.translate_fetch.Kinds.ps fn.Mmu.translate_fetch.Kinds.r fn.Mmu.translate_fetch.Reads.Pre fn.Mmu.translate_fetch.Reads.Post
-Mmu-translate_fetch = record { total = λ κs a. tt; determined = λ κs a x y e f p q. (calls x y (p.0 ∙ sym q.0) (p.1 ∙ sym q.1), refl) }
-
 Mmu-translate_readable : Strong _ fn.Mmu.translate_readable.Kinds.ps fn.Mmu.translate_readable.Kinds.r fn.Mmu.translate_readable.Reads.Pre fn.Mmu.translate_readable.Reads.Post
 Mmu-translate_readable = record { total = λ κs a. tt; determined = λ κs a x y e f p q. (translations x y (p ∙ sym q), refl) }
 
-Mmu-translate_load : Strong _ fn.Mmu.translate_load.Kinds.ps fn.Mmu.translate_load.Kinds.r fn.Mmu.translate_load.Reads.Pre fn.Mmu.translate_load.Reads.Post
-Mmu-translate_load = record { total = λ κs a. tt; determined = λ κs a x y e f p q. (calls x y (p.0 ∙ sym q.0) (p.1 ∙ sym q.1), refl) }
-
-Mmu-translate_store : Strong _ fn.Mmu.translate_store.Kinds.ps fn.Mmu.translate_store.Kinds.r fn.Mmu.translate_store.Reads.Pre fn.Mmu.translate_store.Reads.Post
-Mmu-translate_store = record { total = λ κs a. tt; determined = λ κs a x y e f p q. (calls x y (p.0 ∙ sym q.0) (p.1 ∙ sym q.1), refl) }
+Mmu-translate : Strong _ fn.Mmu.translate.Kinds.ps fn.Mmu.translate.Kinds.r fn.Mmu.translate.Reads.Pre fn.Mmu.translate.Reads.Post
+Mmu-translate = record { total = λ κs a. tt; determined = λ κs a x y e f p q. (calls x y (p.0 ∙ sym q.0) (p.1 ∙ sym q.1), refl) }

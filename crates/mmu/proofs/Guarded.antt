@@ -6,8 +6,7 @@ use Prim.Native.Nat.{ℕ, ◌^◌, ◌<◌}
 use Rattle.access.specs.Allowed.{Closed}
 use Rattle.access.proofs.Shut.{shut}
 use Rattle.walk.specs.Entries.{aligned}
-use Rattle.walk.specs.Walk.{found, lost, target, judge}
-use Rattle.walk.specs.declared.Stop.{Stop}
+use Rattle.walk.specs.Walk.{found, lost, target, judge, Stop}
 use Rattle.mmu.specs.Answers.{without_reads}
 use Rattle.mmu.specs.Cache.{new_mmu, Call, fresh_walk, translate}
 use Rattle.mmu.specs.History.{Event, run, paged, Undisturbed, reached_answer, fresh_answer, faulted, LeafOf}

@@ -1,4 +1,4 @@
--- Demand 3, of the contracts: whatever meets the contracts of the three translations by value keeps the demand. Assumes nothing.
+-- Demand 3, of the contracts: whatever meets the contract of the translation by value keeps the demand, for fetches, loads and stores. Assumes nothing.
 use mathlib.Core.Path.{◌≡◌, sym, ap, ◌∙◌}
 use mathlib.Core.Bool.{true, false}
 use mathlib.Core.List.{List}
@@ -10,14 +10,10 @@ use borrow.Fn.Kinds.{Out, Dens, ended_of}
 use Rattle.answers.specs.Answer.{done}
 use Rattle.access.specs.Allowed.{Closed}
 use Rattle.walk.specs.Walk.{askable}
-use Rattle.access.specs.declared.Kind.{Kind}
-use Rattle.access.specs.declared.Kind.TheVariants.{Fetch, Load, Store}
-use Rattle.mmu.specs.Answers.{translation, without_reads}
-use Rattle.mmu.specs.Cache.{slot_count, new_mmu, Call, call_of, frame_of, in_frame, accepts, translate}
+use Rattle.mmu.specs.Answers.{Translation, At, translation, without_reads}
+use Rattle.mmu.specs.Cache.{slot_count, new_mmu, Call, asked, frame_of, in_frame, accepts, translate}
 use Rattle.mmu.specs.History.{Event, run, paged, Undisturbed, fresh_answer, faulted, LeafOf}
 use Rattle.mmu.specs.declared.Mmu.{Mmu}
-use Rattle.mmu.specs.declared.Translation.{Translation}
-use Rattle.mmu.specs.declared.Translation.TheVariants.{At}
 use Rattle.mmu.specs.declared.Translated.{Translated}
 use Rattle.mmu.proofs.Determined.{translations, calls}
 use Rattle.mmu.proofs.Demand.{demand3}
@@ -26,52 +22,52 @@ use Rattle.mmu.proofs.Barred.{turned_away, barred}
 use Rattle.mmu.proofs.Again.{Again, again_free}
 use Rattle.mmu.proofs as fn
 
--- the three have one signature: a state, the memory, an address, satp, the hart's mode and mstatus
+-- its signature: a state, and a call
 abbrev Contract : Type 1
-Contract = Out 1 fn.Mmu.translate_load.Kinds.ps fn.Mmu.translate_load.Kinds.r
+Contract = Out 1 fn.Mmu.translate.Kinds.ps fn.Mmu.translate.Kinds.r
 
 abbrev Args : Lfts 1 → Type 0
-Args κs = Dens κs fn.Mmu.translate_load.Kinds.ps
+Args κs = Dens κs fn.Mmu.translate.Kinds.ps
 
 abbrev Exits : Lfts 1 → Type 0
-Exits κs = AtExit (ended_of 1 fn.Mmu.translate_load.Kinds.ps fn.Mmu.translate_load.Kinds.r) κs
+Exits κs = AtExit (ended_of 1 fn.Mmu.translate.Kinds.ps fn.Mmu.translate.Kinds.r) κs
 
--- the call that some arguments make, and a state that a history led to
-abbrev call : Kind → (κs : Lfts 1) → Args κs → Call
-call k κs a = call_of k a.1.0.now a.1.1.0 a.1.1.1.0 a.1.1.1.1.0 a.1.1.1.1.1.0
+-- the call, whatever its kind, and a state that a history led to
+abbrev call : (κs : Lfts 1) → Args κs → Call
+call κs a = asked a.1.0
 
 abbrev after : List Event → Mmu
 after h = run slot_count (new_mmu slot_count) h
 
 -- THE DEMAND: from a state that a history led to, under the conditions, the answer is the fresh walk's
-abbrev pub Fresh : Kind → Contract → Type 0
-Fresh k Post = (κs : Lfts 1) (a : Args κs) (x : Translated) (e : Exits κs) → Post κs a x e
-    → (h : List Event) → a.0 ≡ after h → a.1.1.0 < 2 ^ 64 → paged (call k κs a) ≡ true → Undisturbed h (call k κs a)
-    → without_reads x.answer ≡ fresh_answer (call k κs a)
+abbrev pub Fresh : Contract → Type 0
+Fresh Post = (κs : Lfts 1) (a : Args κs) (x : Translated) (e : Exits κs) → Post κs a x e
+    → (h : List Event) → a.0 ≡ after h → (call κs a).address < 2 ^ 64 → paged (call κs a) ≡ true → Undisturbed h (call κs a)
+    → without_reads x.answer ≡ fresh_answer (call κs a)
 
 -- THE PRIVILEGE: and where the page is closed to the call, it is a page fault
-abbrev pub Guarded : Kind → Contract → Type 0
-Guarded k Post = (κs : Lfts 1) (a : Args κs) (x : Translated) (e : Exits κs) → Post κs a x e
-    → (h : List Event) → a.0 ≡ after h → a.1.1.0 < 2 ^ 64 → paged (call k κs a) ≡ true → Undisturbed h (call k κs a)
-    → (level leaf : ℕ) → LeafOf (call k κs a) level leaf → Closed (call k κs a).access leaf
-    → without_reads x.answer ≡ faulted (call k κs a)
+abbrev pub Guarded : Contract → Type 0
+Guarded Post = (κs : Lfts 1) (a : Args κs) (x : Translated) (e : Exits κs) → Post κs a x e
+    → (h : List Event) → a.0 ≡ after h → (call κs a).address < 2 ^ 64 → paged (call κs a) ≡ true → Undisturbed h (call κs a)
+    → (level leaf : ℕ) → LeafOf (call κs a) level leaf → Closed (call κs a).access leaf
+    → without_reads x.answer ≡ faulted (call κs a)
 
 -- WHAT MAY NOT BE ASKED FOR: after any history, an address that is not canonical, or a satp that names no tables, is a page fault without a read, and the
 -- state stays
-abbrev pub Barred : Kind → Contract → Type 0
-Barred k Post = (κs : Lfts 1) (a : Args κs) (x : Translated) (e : Exits κs) → Post κs a x e
-    → (h : List Event) → a.0 ≡ after h → a.1.1.0 < 2 ^ 64 → paged (call k κs a) ≡ true → askable a.1.1.0 a.1.1.1.0 ≡ false
-    → x ≡ record { answer = turned_away (call k κs a); mmu = a.0 }
+abbrev pub Barred : Contract → Type 0
+Barred Post = (κs : Lfts 1) (a : Args κs) (x : Translated) (e : Exits κs) → Post κs a x e
+    → (h : List Event) → a.0 ≡ after h → (call κs a).address < 2 ^ 64 → paged (call κs a) ≡ true → askable (call κs a).address (call κs a).satp ≡ false
+    → x ≡ record { answer = turned_away (call κs a); mmu = a.0 }
 
 -- THE LAST SENTENCE: made again at once after a success, it succeeds in the same frame and reads no table entry
-abbrev pub Free : Kind → Contract → Type 0
-Free k Post = (κs : Lfts 1) (a : Args κs) (x : Translated) (e : Exits κs) → Post κs a x e
+abbrev pub Free : Contract → Type 0
+Free Post = (κs : Lfts 1) (a : Args κs) (x : Translated) (e : Exits κs) → Post κs a x e
     → (κs' : Lfts 1) (b : Args κs') (y : Translated) (f : Exits κs') → Post κs' b y f
     → (h : List Event) → a.0 ≡ after h → b.0 ≡ x.mmu
-    → (t : ℕ) → without_reads x.answer ≡ done t → Again (call k κs a) (call k κs' b) → accepts (call k κs' b) ≡ true → b.1.1.0 < 2 ^ 64
-    → y.answer ≡ At (in_frame (frame_of t) b.1.1.0) 0
+    → (t : ℕ) → without_reads x.answer ≡ done t → Again (call κs a) (call κs' b) → accepts (call κs' b) ≡ true → (call κs' b).address < 2 ^ 64
+    → y.answer ≡ At (in_frame (frame_of t) (call κs' b).address) 0
 
--- ---- one law for the three
+-- ---- each, of the definition
 
 answered : (s s' : Mmu) (c : Call) (x : Translation) → s ≡ s' → translation x ≡ translation (translate slot_count s c).answer → x ≡ (translate slot_count s' c).answer
 answered s s' c x e p = translations x (translate slot_count s c).answer p ∙ ap (λ (z : Mmu). (translate slot_count z c).answer) e
@@ -100,38 +96,16 @@ free s s' c d x y p q h e n t ok g u small =
     answered s' (translate slot_count (after h) c).mmu d y (n ∙ ap (λ (z : Mmu). (translate slot_count z c).mmu) e) q
     ∙ again_free slot_count h c d t (omega arith) (ap without_reads (sym (answered s (after h) c x e p)) ∙ ok) g u small
 
-pub fetch_fresh : Fresh Fetch fn.Mmu.translate_fetch.Reads.Post
-fetch_fresh κs a x e p = fresh a.0 (call Fetch κs a) x.answer p.0
+-- ---- and of the contract
 
-pub load_fresh : Fresh Load fn.Mmu.translate_load.Reads.Post
-load_fresh κs a x e p = fresh a.0 (call Load κs a) x.answer p.0
+pub translate_fresh : Fresh fn.Mmu.translate.Reads.Post
+translate_fresh κs a x e p = fresh a.0 (call κs a) x.answer p.0
 
-pub store_fresh : Fresh Store fn.Mmu.translate_store.Reads.Post
-store_fresh κs a x e p = fresh a.0 (call Store κs a) x.answer p.0
+pub translate_guarded : Guarded fn.Mmu.translate.Reads.Post
+translate_guarded κs a x e p = guarded a.0 (call κs a) x.answer p.0
 
-pub fetch_guarded : Guarded Fetch fn.Mmu.translate_fetch.Reads.Post
-fetch_guarded κs a x e p = guarded a.0 (call Fetch κs a) x.answer p.0
+pub translate_barred : Barred fn.Mmu.translate.Reads.Post
+translate_barred κs a x e p = turned a.0 (call κs a) x p.0 p.1
 
-pub load_guarded : Guarded Load fn.Mmu.translate_load.Reads.Post
-load_guarded κs a x e p = guarded a.0 (call Load κs a) x.answer p.0
-
-pub store_guarded : Guarded Store fn.Mmu.translate_store.Reads.Post
-store_guarded κs a x e p = guarded a.0 (call Store κs a) x.answer p.0
-
-pub fetch_barred : Barred Fetch fn.Mmu.translate_fetch.Reads.Post
-fetch_barred κs a x e p = turned a.0 (call Fetch κs a) x p.0 p.1
-
-pub load_barred : Barred Load fn.Mmu.translate_load.Reads.Post
-load_barred κs a x e p = turned a.0 (call Load κs a) x p.0 p.1
-
-pub store_barred : Barred Store fn.Mmu.translate_store.Reads.Post
-store_barred κs a x e p = turned a.0 (call Store κs a) x p.0 p.1
-
-pub fetch_free : Free Fetch fn.Mmu.translate_fetch.Reads.Post
-fetch_free κs a x e p κs' b y f q h s n = free a.0 b.0 (call Fetch κs a) (call Fetch κs' b) x.answer y.answer p.0 q.0 h s (n ∙ p.1)
-
-pub load_free : Free Load fn.Mmu.translate_load.Reads.Post
-load_free κs a x e p κs' b y f q h s n = free a.0 b.0 (call Load κs a) (call Load κs' b) x.answer y.answer p.0 q.0 h s (n ∙ p.1)
-
-pub store_free : Free Store fn.Mmu.translate_store.Reads.Post
-store_free κs a x e p κs' b y f q h s n = free a.0 b.0 (call Store κs a) (call Store κs' b) x.answer y.answer p.0 q.0 h s (n ∙ p.1)
+pub translate_free : Free fn.Mmu.translate.Reads.Post
+translate_free κs a x e p κs' b y f q h s n = free a.0 b.0 (call κs a) (call κs' b) x.answer y.answer p.0 q.0 h s (n ∙ p.1)

@@ -10,14 +10,8 @@ new = record { total = λ κs a. tt; determined = λ κs a x y e f p q. (refl, b
 flush : Strong _ fn.flush.Kinds.ps fn.flush.Kinds.r fn.flush.Reads.Pre fn.flush.Reads.Post
 flush = record { total = λ κs a. tt; determined = λ κs a x y e f p q. (refl, both (p ∙ sym q) refl) }
 
-translate_fetch : Strong _ fn.translate_fetch.Kinds.ps fn.translate_fetch.Kinds.r fn.translate_fetch.Reads.Pre fn.translate_fetch.Reads.Post
-translate_fetch = record { total = λ κs a. tt; determined = λ κs a x y e f p q. (p.answer.number ∙ sym q.answer.number, both (p.words ∙ sym q.words) (both refl (both refl (both refl (both refl (both refl (both (p.answer.out ∙ sym q.answer.out) refl))))))) }
-
-translate_load : Strong _ fn.translate_load.Kinds.ps fn.translate_load.Kinds.r fn.translate_load.Reads.Pre fn.translate_load.Reads.Post
-translate_load = record { total = λ κs a. tt; determined = λ κs a x y e f p q. (p.answer.number ∙ sym q.answer.number, both (p.words ∙ sym q.words) (both refl (both refl (both refl (both refl (both refl (both (p.answer.out ∙ sym q.answer.out) refl))))))) }
-
-translate_store : Strong _ fn.translate_store.Kinds.ps fn.translate_store.Kinds.r fn.translate_store.Reads.Pre fn.translate_store.Reads.Post
-translate_store = record { total = λ κs a. tt; determined = λ κs a x y e f p q. (p.answer.number ∙ sym q.answer.number, both (p.words ∙ sym q.words) (both refl (both refl (both refl (both refl (both refl (both (p.answer.out ∙ sym q.answer.out) refl))))))) }
+translate : Strong _ fn.translate.Kinds.ps fn.translate.Kinds.r fn.translate.Reads.Pre fn.translate.Reads.Post
+translate = record { total = λ κs a. tt; determined = λ κs a x y e f p q. (p.answer.number ∙ sym q.answer.number, both (p.words ∙ sym q.words) (both refl (both (p.answer.out ∙ sym q.answer.out) refl))) }
 
 translate_readable : Strong _ fn.translate_readable.Kinds.ps fn.translate_readable.Kinds.r fn.translate_readable.Reads.Pre fn.translate_readable.Reads.Post
-translate_readable = record { total = λ κs a. tt; determined = λ κs a x y e f p q. (p.number ∙ sym q.number, both refl (both refl (both refl (both refl (both refl (both (p.out ∙ sym q.out) refl)))))) }
+translate_readable = record { total = λ κs a. tt; determined = λ κs a x y e f p q. (p.number ∙ sym q.number, both refl (both (p.out ∙ sym q.out) refl)) }

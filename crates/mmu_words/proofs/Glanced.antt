@@ -18,7 +18,7 @@ use Rattle.access.specs.declared.Kind.{Kind}
 use Rattle.access.specs.declared.Kind.TheVariants.{Fetch, Load, Store}
 use Rattle.access.proofs.Plain.{plain_allows}
 use Rattle.walk.specs.Walk.{Memory, walkable}
-use Rattle.mmu.specs.Cache.{Call, call_of, page_of, in_frame, unpaged, accepts, live, held, matches, quick_kind, quick, look_cache, look}
+use Rattle.mmu.specs.Cache.{Call, mapping, call_of, page_of, in_frame, unpaged, accepts, live, held, matches, quick_kind, quick, look_cache, look}
 use Rattle.mmu.specs.declared.Shortcut.{Shortcut}
 use Rattle.mmu.specs.declared.TlbEntry.{TlbEntry}
 use Rattle.mmu.specs.declared.Lookup.TheVariants.{Straight, Held, Unusable}
@@ -75,23 +75,23 @@ module _ (ws : List ℕ) (k : Kind) (m : Memory) (a satp : ℕ) (mode : PrivMode
       short_look y n q v h = rw (u, v, w, h)
 
       slot_look : (y : TlbEntry) (n : ℕ) (q : Shortcut) → unpaged c.access satp ≡ false → quick c.access q satp (page_of a) ≡ false
-          → held y n c.access (page_of a) ≡ true → Held (in_frame y.frame a) y.frame y.leaf ≡ look y n q c
+          → held y n c.access (page_of a) ≡ true → Held (in_frame y.frame a) (mapping y.frame y.leaf) ≡ look y n q c
       unfolding look look_cache accepts
       slot_look y n q v h l = rw (u, v, w, h, l)
 
       -- as the code reads them of the words
-      read : {i n : ℕ} {y : TlbEntry} {q : Shortcut} → q ≡ shortcut_in ws (shortcut_place k) → i ≡ slot_place a → y ≡ slot_in ws i → n ≡ epoch_in ws epoch_at → look y n q c ≡ look_in ws c
+      read : {n : ℕ} {y : TlbEntry} {q : Shortcut} → q ≡ shortcut_in ws (shortcut_place k) → y ≡ slot_in ws (slot_place a) → n ≡ epoch_in ws epoch_at → look y n q c ≡ look_in ws c
       unfolding look_in access_of
-      read e hi hy hn = λ j. look ((hy ∙ ap (slot_in ws) hi) j) (hn j) (e j) c
+      read e hy hn = λ j. look (hy j) (hn j) (e j) c
 
       pub near_told : {q : Shortcut} → q ≡ shortcut_in ws (shortcut_place k) → near k q satp (page_of a) ≡ true → plain k mode mstatus q.leaf ≡ true
           → Straight (in_frame q.frame a) ≡ look_in ws c
       near_told {q} e n p =
           short_look (slot_in ws (slot_place a)) (epoch_in ws epoch_at) q (paged_so q.leaf p) (quick_so q n p)
-          ∙ read {i = slot_place a} e refl refl refl
+          ∙ read e refl refl
 
-      pub held_told : {i n : ℕ} {y : TlbEntry} {q : Shortcut} → q ≡ shortcut_in ws (shortcut_place k) → near k q satp (page_of a) ≡ false
-          → i ≡ slot_place a → y ≡ slot_in ws i → n ≡ epoch_in ws epoch_at → live y n (page_of a) ≡ true → plain k mode mstatus y.leaf ≡ true
-          → Held (in_frame y.frame a) y.frame y.leaf ≡ look_in ws c
-      held_told {i} {n} {y} {q} e f hi hy hn l p =
-          slot_look y n q (paged_so y.leaf p) (slow_so q f) (held_so y n l p) ∙ read {i = i} e hi hy hn
+      pub held_told : {n : ℕ} {y : TlbEntry} {q : Shortcut} → q ≡ shortcut_in ws (shortcut_place k) → near k q satp (page_of a) ≡ false
+          → y ≡ slot_in ws (slot_place a) → n ≡ epoch_in ws epoch_at → live y n (page_of a) ≡ true → plain k mode mstatus y.leaf ≡ true
+          → Held (in_frame y.frame a) (mapping y.frame y.leaf) ≡ look_in ws c
+      held_told {n} {y} {q} e f hy hn l p =
+          slot_look y n q (paged_so y.leaf p) (slow_so q f) (held_so y n l p) ∙ read e hy hn

@@ -1,76 +1,106 @@
 // The account of a replay: the answers of a module and how many of them differ, then those of all modules, and the lines that are not
 // understood.
-use crate::list::Line;
-use crate::told;
-use crate::told::Answer;
-use std::io;
+use crate::told::Verdict;
+use std::ops::AddAssign;
+use std::{fmt, io};
 
+// A line as it stands in the list. It is written as the bytes that it is, which need not be text.
 #[derive(Clone, Copy)]
+pub(crate) struct Source<'a> {
+    pub number: u64,
+    pub text: &'a [u8],
+}
+
+#[derive(Clone, Copy, Default)]
+struct Tally {
+    answers: u64,
+    differ: u64,
+}
+
+#[derive(Clone, Copy, Default)]
 pub(crate) struct Account {
-    pub answers: u64,
-    pub differ: u64,
-    pub all: u64,
-    pub all_differ: u64,
-    pub unread: u64,
+    module: Tally,
+    all: Tally,
+    unread: u64,
 }
 
-// Takes a line in. One that is not as the list says is shown with its number.
-pub(crate) fn note(
-    rt: &impl Print,
-    account: Account,
-    line: Line,
-    told: Answer,
-    number: u64,
-    text: &[u8],
-) -> io::Result<Account> {
-    let mut next = account;
-    if told.shape == told::REMARK {
-        return Ok(next);
+// The first few lines of a kind are shown.
+const SHOWN: u64 = 8;
+
+impl Account {
+    // Takes a line in. One that is not as the list says is shown with its number.
+    pub(crate) fn note(
+        &mut self,
+        rt: &impl Print,
+        source: Source,
+        verdict: Verdict,
+    ) -> io::Result<()> {
+        match verdict {
+            Verdict::Remark => {}
+            Verdict::Same => self.module += Tally::SAME,
+            Verdict::Differs => {
+                self.module += Tally::DIFFERS;
+                if self.module.differ <= SHOWN {
+                    source.show(rt, "differs")?;
+                }
+            }
+            Verdict::Unread => {
+                self.unread = self.unread.wrapping_add(1);
+                if self.unread <= SHOWN {
+                    source.show(rt, "is not understood")?;
+                }
+            }
+        }
+        Ok(())
     }
-    if told.shape != line.shape {
-        next.unread = one_more(next.unread);
-        show(rt, next.unread, number, " is not understood: ", text)?;
-        return Ok(next);
+
+    // A module is over: writes its answers, after its name, and adds them to the others.
+    pub(crate) fn close(&mut self, rt: &impl Print, name: &[u8]) -> io::Result<()> {
+        self.module.row(rt, name)?;
+        self.all += self.module;
+        self.module = Tally::default();
+        Ok(())
     }
-    next.answers = one_more(next.answers);
-    if !told::is_same(line, told) {
-        next.differ = one_more(next.differ);
-        show(rt, next.differ, number, " differs: ", text)?;
+
+    pub(crate) fn report(&self, rt: &impl Print) -> io::Result<()> {
+        self.all.row(rt, b"total")?;
+        println!(rt; "{} lines not understood", self.unread)
     }
-    Ok(next)
 }
 
-// A module is over: writes its answers, after its name, and adds them to the others.
-pub(crate) fn close(rt: &impl Print, account: Account, name: &[u8]) -> io::Result<Account> {
-    row(rt, name, account.answers, account.differ)?;
-    Ok(Account {
-        answers: 0,
+impl Tally {
+    const SAME: Tally = Tally {
+        answers: 1,
         differ: 0,
-        all: std::num::wrapping_add_u64(account.all, account.answers),
-        all_differ: std::num::wrapping_add_u64(account.all_differ, account.differ),
-        unread: account.unread,
-    })
-}
+    };
 
-pub(crate) fn report(rt: &impl Print, account: Account) -> io::Result<()> {
-    row(rt, b"total", account.all, account.all_differ)?;
-    println!(rt; "{} lines not understood", account.unread)
-}
+    const DIFFERS: Tally = Tally {
+        answers: 1,
+        differ: 1,
+    };
 
-fn one_more(count: u64) -> u64 {
-    std::num::wrapping_add_u64(count, 1)
-}
-
-// The first few of a kind. The line is written as the bytes that it is, which need not be text.
-fn show(rt: &impl Print, count: u64, number: u64, what: &str, text: &[u8]) -> io::Result<()> {
-    if count < 9 {
-        print!(rt; "line {number}{what}")?;
-        rt.write_all(text)?;
+    fn row(&self, rt: &impl Print, name: &[u8]) -> io::Result<()> {
+        rt.write_all(name)?;
+        println!(rt; ": {self}")
     }
-    Ok(())
 }
 
-fn row(rt: &impl Print, name: &[u8], answers: u64, differ: u64) -> io::Result<()> {
-    rt.write_all(name)?;
-    println!(rt; ": {answers} answers, {differ} differ")
+impl AddAssign for Tally {
+    fn add_assign(&mut self, other: Tally) {
+        self.answers = self.answers.wrapping_add(other.answers);
+        self.differ = self.differ.wrapping_add(other.differ);
+    }
+}
+
+impl fmt::Display for Tally {
+    fn fmt<W: fmt::Write>(&self, f: &mut fmt::Formatter<W>) -> fmt::Result {
+        write!(f, "{} answers, {} differ", self.answers, self.differ)
+    }
+}
+
+impl Source<'_> {
+    fn show(&self, rt: &impl Print, what: &str) -> io::Result<()> {
+        print!(rt; "line {} {what}: ", self.number)?;
+        rt.write_all(self.text)
+    }
 }

@@ -1,159 +1,149 @@
 // The list: text, a line for each answer. A line is a letter, the number of a function, its inputs, '=' and what it answers; of a call on
 // a state then ';' and the words that it changed, each by its place and its new value. All numbers are hexadecimal.
-ghost use Rattle.std.specs.Prelude.{◌<◌, ◌≤◌, length};
+use crate::told::Verdict;
+use std::{array, iter};
 
-// A number in the list, if there is one: how many are found, 1 or 0, and where the rest of the line begins.
+// A line. Of the columns that it may have, those that are there come first.
 #[derive(Clone, Copy)]
-struct Number {
-    found: u64,
-    value: u64,
-    next: usize,
-}
-
-// A line but for the words that it changed, which begin at `rest`. What is not there is 0. The shape says which columns are there: its
-// first hexadecimal digit is 1, 3, 7 or f where there are one, two, three or four inputs, its second the same for the answers.
-#[derive(Clone, Copy)]
-pub(crate) struct Line {
+pub(crate) struct Line<'a> {
     pub letter: u8,
     pub function: u64,
-    pub shape: u64,
-    pub a: u64,
-    pub b: u64,
-    pub c: u64,
-    pub d: u64,
-    pub x: u64,
-    pub y: u64,
-    pub z: u64,
-    pub rest: usize,
+    inputs: [Option<u64>; 4],
+    answers: [Option<u64>; 3],
+    changes: Columns<'a>,
 }
 
-// The line that begins at a place of the list.
-pub(crate) fn read_line(list: &[u8], at: usize) -> Line
-    requires { at < length list.now }
-{
-    let letter = list[at];
-    let function = digits(list, at + 1);
-    let a = column(list, function.next);
-    let b = column(list, a.next);
-    let c = column(list, b.next);
-    let d = column(list, c.next);
-    let x = column(list, mark(list, d.next, b'='));
-    let y = column(list, x.next);
-    let z = column(list, y.next);
-    let inputs = a.found | (b.found << 1) | (c.found << 2) | (d.found << 3);
-    let answers = x.found | (y.found << 1) | (z.found << 2);
-    Line {
-        letter,
-        function: function.value,
-        shape: (inputs << 4) | answers,
-        a: a.value,
-        b: b.value,
-        c: c.value,
-        d: d.value,
-        x: x.value,
-        y: y.value,
-        z: z.value,
-        rest: z.next,
+impl<'a> Line<'a> {
+    // An empty line has not even a letter.
+    pub(crate) fn read(text: &'a [u8]) -> Option<Self> {
+        let line = text.strip_suffix(b"\n").unwrap_or(text);
+        let (letter, rest) = line.split_first()?;
+        let mut columns = Columns(rest);
+        let function = columns.digits().unwrap_or(0);
+        let inputs = columns.numbers();
+        columns.skip(b" =");
+        let answers = columns.numbers();
+        Some(Line {
+            letter: *letter,
+            function,
+            inputs,
+            answers,
+            changes: columns,
+        })
     }
-}
 
-// Where the line after this one begins.
-pub(crate) fn next_line(list: &[u8], at: usize) -> usize
-    requires { at < length list.now }
-    ensures { (at < result) × (result ≤ length list.now) }
-{
-    let mut next = at;
-    while next < list.len() && list[next] != b'\n' {
-        next += 1;
+    // An input that is not there is 0.
+    pub(crate) fn inputs(&self) -> [u64; 4] {
+        self.inputs.map(|column| column.unwrap_or(0))
     }
-    if next < list.len() { next + 1 } else { next }
-}
 
-// Whether the line ends here.
-pub(crate) fn is_end(list: &[u8], at: usize) -> bool {
-    if at < list.len() {
-        list[at] == b'\n'
-    } else {
-        true
+    // Whether nothing follows the answer.
+    pub(crate) fn is_whole(&self) -> bool {
+        self.changes.is_end()
     }
-}
 
-// Puts the words that a line says were changed where they belong. Whether the line then ends: it does where it names words that there are,
-// and each at most once.
-pub(crate) fn change(list: &[u8], rest: usize, words: &mut [u64]) -> bool {
-    let mut at = mark(list, rest, b';');
-    for _ in 0..words.len() {
-        at = put(list, at, words);
+    // Whether there are so many inputs and so many answers.
+    pub(crate) fn has(&self, inputs: usize, answers: usize) -> bool {
+        count(&self.inputs) == inputs && count(&self.answers) == answers
     }
-    is_end(list, at)
-}
 
-// Puts one word, by its place and its value, and goes past them; or stays where no such two numbers stand.
-fn put(list: &[u8], at: usize, words: &mut [u64]) -> usize {
-    let place = column(list, at);
-    let value = column(list, place.next);
-    let word = place.value as usize;
-    if word < words.len() && value.found == 1 {
-        words[word] = value.value;
-        return value.next;
-    }
-    at
-}
-
-// What follows a space and a sign, or the same place where they are not there.
-fn mark(list: &[u8], at: usize, sign: u8) -> usize {
-    if at < list.len() {
-        let next = at + 1;
-        if next < list.len() {
-            if list[at] == b' ' && list[next] == sign {
-                return next + 1;
-            }
+    // What comes of a line whose call takes so many inputs and answers this.
+    pub(crate) fn says(&self, inputs: usize, answers: &[u64]) -> Verdict {
+        if !self.has(inputs, answers.len()) {
+            Verdict::Unread
+        } else if self.answers.iter().flatten().eq(answers) {
+            Verdict::Same
+        } else {
+            Verdict::Differs
         }
     }
-    at
-}
 
-// The number after a space.
-fn column(list: &[u8], at: usize) -> Number {
-    if at < list.len() {
-        if list[at] == b' ' {
-            let number = digits(list, at + 1);
-            if number.found == 1 {
-                return number;
-            }
+    // What comes of a line on a state, whose call tells this and leaves these words. The line has to be understood to its end. Where the call
+    // left others than the line says, it tells something else than the line. A line that sets words has no columns.
+    pub(crate) fn settle(&self, told: Verdict, words: &mut [u64], left: &[u64]) -> Verdict {
+        if !self.change(words) {
+            return Verdict::Unread;
+        }
+        match told {
+            Verdict::Remark if self.has(0, 0) => Verdict::Remark,
+            Verdict::Remark => Verdict::Unread,
+            _ if &*words != left => Verdict::Differs,
+            _ => told,
         }
     }
-    Number {
-        found: 0,
-        value: 0,
-        next: at,
+
+    // Puts the words that a line says were changed where they belong. Whether the line then ends: it does where it names words that there are,
+    // and no more than there are.
+    fn change(&self, words: &mut [u64]) -> bool {
+        let mut changes = self.changes;
+        changes.skip(b" ;");
+        for (place, value) in iter::from_fn(|| changes.pair()).take(words.len()) {
+            let Some(word) = words.get_mut(place as usize) else {
+                return false;
+            };
+            *word = value;
+        }
+        changes.is_end()
     }
 }
 
-fn digits(list: &[u8], from: usize) -> Number {
-    let mut value = 0;
-    let mut at = from;
-    while at < list.len() && goes_on(value, list[at]) {
-        value = (value << 4) | digit(list[at]);
-        at += 1;
+fn count(columns: &[Option<u64>]) -> usize {
+    columns.iter().flatten().count()
+}
+
+// What is left of a line.
+#[derive(Clone, Copy)]
+struct Columns<'a>(&'a [u8]);
+
+impl Columns<'_> {
+    fn is_end(&self) -> bool {
+        self.0.is_empty()
     }
-    Number {
-        found: (at != from) as u64,
-        value,
-        next: at,
+
+    // Goes past a sign, if it is there.
+    fn skip(&mut self, sign: &[u8]) {
+        if let Some(rest) = self.0.strip_prefix(sign) {
+            self.0 = rest;
+        }
+    }
+
+    fn numbers<const N: usize>(&mut self) -> [Option<u64>; N] {
+        array::from_fn(|_| self.number())
+    }
+
+    fn pair(&mut self) -> Option<(u64, u64)> {
+        let mut columns = *self;
+        let pair = (columns.number()?, columns.number()?);
+        *self = columns;
+        Some(pair)
+    }
+
+    // The number after a space.
+    fn number(&mut self) -> Option<u64> {
+        let mut columns = Columns(self.0.strip_prefix(b" ")?);
+        let number = columns.digits()?;
+        *self = columns;
+        Some(number)
+    }
+
+    // As many digits as there are, or as there is room for.
+    fn digits(&mut self) -> Option<u64> {
+        let mut number = None;
+        while let Some((byte, rest)) = self.0.split_first()
+            && let Some(longer) = with_digit(number.unwrap_or(0), *byte)
+        {
+            number = Some(longer);
+            self.0 = rest;
+        }
+        number
     }
 }
 
-// Whether this is one more digit, of a number that has room for it in its 64 bits.
-fn goes_on(value: u64, byte: u8) -> bool {
-    value < 0x1000_0000_0000_0000 && digit(byte) < 16
-}
-
-// The value of a digit, or 16 of what is none.
-fn digit(byte: u8) -> u64 {
-    match byte {
-        b'0'..=b'9' => (byte - b'0') as u64,
-        b'a'..=b'f' => (byte - b'a') as u64 + 10,
-        _ => 16,
+// The number with one more digit, of the lower case, if its 64 bits have room for it.
+fn with_digit(number: u64, byte: u8) -> Option<u64> {
+    if byte.is_ascii_uppercase() {
+        return None;
     }
+    let digit = char::from(byte).to_digit(16)?;
+    number.checked_mul(16)?.checked_add(u64::from(digit))
 }

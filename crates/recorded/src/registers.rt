@@ -1,83 +1,67 @@
 // gpr.rs. The words are x0 to x31, pc, f0 to f31.
 use crate::list::Line;
-use crate::told::Answer;
-use crate::{list, told};
-use answers::Acceptance;
-use gpr::{Gpr, Reading32, Written};
+use crate::told::Verdict;
+use crate::{narrow, told};
+use gpr::{Gpr, Written};
+use std::array;
 
-// 0: new; 1: words are set; 2 to 5: reads; 6 to 9: writes.
-pub(crate) fn replay(list: &[u8], line: Line, words: &mut [u64; 65]) -> Answer {
-    let before = held(words);
-    let written = write(line.function, line.a, line.b, before);
-    let accepted = written.answer;
-    let told = answer(line.function, line.a, before, accepted);
-    if line.function == 0 {
-        *words = [0u64; 65];
-    }
-    let is_read = list::change(list, line.rest, words);
-    told::judged(line, is_read, is(written.gpr, words), told)
+const WORDS: usize = 65;
+
+#[derive(Default, Drop)]
+pub(crate) struct Registers {
+    words: [u64; WORDS],
 }
 
-// The registers after a call, which a read leaves as they are.
-fn write(function: u64, a: u64, b: u64, gpr: Gpr) -> Written {
+impl Registers {
+    pub(crate) fn replay(&mut self, line: &Line) -> Verdict {
+        let (told, left) = call(line, held(&self.words));
+        if line.function == 0 {
+            *self = Registers::default();
+        }
+        line.settle(told, &mut self.words, &words_of(&left))
+    }
+}
+
+// 0: new; 1: words are set; 2 to 5: reads; 6 to 9: writes. The registers after the call, which a read leaves as they are.
+fn call(line: &Line, gpr: Gpr) -> (Verdict, Gpr) {
+    let [a, b, ..] = line.inputs();
     let reg = a as usize;
-    match function {
-        0 => done(Gpr::new(a)),
-        6 => gpr.write(reg, b),
-        7 => done(gpr.write_masked((a % 0x100) as u8, b)),
-        8 => gpr.write_f(reg, b),
-        9 => gpr.write_f32(reg, (b % 0x1_0000_0000) as u32),
-        _ => done(gpr),
+    match line.function {
+        0 => (line.says(1, &[0]), Gpr::new(a)),
+        1 => (Verdict::Remark, gpr),
+        2 => (line.says(1, &told::reading(gpr.read(reg))), gpr),
+        3 => (line.says(1, &[0, gpr.read_masked(narrow::byte(a))]), gpr),
+        4 => (line.says(1, &told::reading(gpr.read_f(reg))), gpr),
+        5 => (
+            line.says(1, &told::reading(gpr.read_f32(reg).map(u64::from))),
+            gpr,
+        ),
+        6 => written(line, gpr.write(reg, b)),
+        7 => (line.says(2, &[0]), gpr.write_masked(narrow::byte(a), b)),
+        8 => written(line, gpr.write_f(reg, b)),
+        9 => written(line, gpr.write_f32(reg, narrow::word(b))),
+        _ => (Verdict::Unread, gpr),
     }
 }
 
-fn done(gpr: Gpr) -> Written {
-    Written {
-        answer: Acceptance::Done,
-        gpr,
-    }
-}
-
-fn answer(function: u64, a: u64, gpr: Gpr, accepted: Acceptance) -> Answer {
-    let reg = a as usize;
-    if 9 < function {
-        return told::only(told::UNREAD);
-    }
-    match function {
-        0 => told::acceptance(0x11, accepted),
-        1 => told::only(told::REMARK),
-        2 => told::reading(0x13, gpr.read(reg)),
-        3 => told::values(0x13, 0, gpr.read_masked((a % 0x100) as u8), 0),
-        4 => told::reading(0x13, gpr.read_f(reg)),
-        5 => reading32(gpr.read_f32(reg)),
-        _ => told::acceptance(0x31, accepted),
-    }
-}
-
-fn reading32(answer: Reading32) -> Answer {
-    match answer {
-        Reading32::Value(value) => told::values(0x13, 0, value as u64, 0),
-        Reading32::Refused(refusal) => told::values(0x13, refusal.number() as u64, 0, 0),
-    }
+fn written(line: &Line, written: Written) -> (Verdict, Gpr) {
+    (line.says(2, &told::acceptance(written.answer)), written.gpr)
 }
 
 // The registers that these words are.
-fn held(words: &[u64; 65]) -> Gpr {
-    let pc = words[32];
-    let mut x = [0u64; 32];
-    let mut f = [0u64; 32];
-    for i in 0..32 {
-        x[i] = words[i];
-        f[i] = words[33 + i];
+fn held(words: &[u64; WORDS]) -> Gpr {
+    Gpr {
+        x: array::from_fn(|i| words[i]),
+        pc: words[32],
+        f: array::from_fn(|i| words[33 + i]),
     }
-    Gpr { x, pc, f }
 }
 
-// Whether the registers are these words.
-fn is(gpr: Gpr, words: &[u64; 65]) -> bool {
-    let mut apart = gpr.pc ^ words[32];
-    for i in 0..32 {
-        apart = apart | (gpr.x[i] ^ words[i]) | (gpr.f[i] ^ words[33 + i]);
-    }
-    apart == 0
+// The words that these registers are.
+fn words_of(gpr: &Gpr) -> [u64; WORDS] {
+    let mut words = [0; WORDS];
+    words[..32].copy_from_slice(&gpr.x);
+    words[32] = gpr.pc;
+    words[33..].copy_from_slice(&gpr.f);
+    words
 }

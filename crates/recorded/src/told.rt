@@ -1,64 +1,34 @@
-// What the library answers, as a line would say it.
-use crate::list::Line;
-use answers::{Acceptance, Reading};
+// What the library answers, as a line would say it, and what comes of the line.
+use answers::Refusal;
 
-// The shape is that of the line, or one of the two below.
 #[derive(Clone, Copy)]
-pub(crate) struct Answer {
-    pub shape: u64,
-    pub x: u64,
-    pub y: u64,
-    pub z: u64,
-}
-
-// There is no such call.
-pub(crate) const UNREAD: u64 = 0x100;
-
-// No call: a remark, or a line that sets words.
-pub(crate) const REMARK: u64 = 0x101;
-
-pub(crate) fn only(shape: u64) -> Answer {
-    values(shape, 0, 0, 0)
-}
-
-pub(crate) fn values(shape: u64, x: u64, y: u64, z: u64) -> Answer {
-    Answer { shape, x, y, z }
+pub(crate) enum Verdict {
+    // No call: a remark, or a line that sets words.
+    Remark,
+    // There is no such call, or the line has not its columns.
+    Unread,
+    // The call answers what the line says, and leaves the words that it says,
+    Same,
+    // or it does not.
+    Differs,
 }
 
 // Document 01's number and the value, which is 0 where the call is refused.
-pub(crate) fn reading(shape: u64, answer: Reading) -> Answer {
+pub(crate) fn reading(answer: Result<u64, Refusal>) -> [u64; 2] {
     match answer {
-        Reading::Value(value) => values(shape, 0, value, 0),
-        Reading::Refused(refusal) => values(shape, refusal.number() as u64, 0, 0),
+        Ok(value) => [0, value],
+        Err(refusal) => [number(refusal), 0],
     }
 }
 
 // Document 01's number.
-pub(crate) fn acceptance(shape: u64, answer: Acceptance) -> Answer {
+pub(crate) fn acceptance(answer: Result<(), Refusal>) -> [u64; 1] {
     match answer {
-        Acceptance::Done => only(shape),
-        Acceptance::Refused(refusal) => values(shape, refusal.number() as u64, 0, 0),
+        Ok(()) => [0],
+        Err(refusal) => [number(refusal)],
     }
 }
 
-// Of a line on a state: whether it is understood to its end, and whether the call left the words that it says. Where the call left others, it
-// tells something else than the line. A line that sets words has no columns.
-pub(crate) fn judged(line: Line, is_read: bool, is_left: bool, told: Answer) -> Answer {
-    if !is_read {
-        return only(UNREAD);
-    }
-    if told.shape == REMARK && line.shape == 0 {
-        return told;
-    }
-    if told.shape == REMARK {
-        return only(UNREAD);
-    }
-    if is_left {
-        return told;
-    }
-    values(line.shape, !line.x, 0, 0)
-}
-
-pub(crate) fn is_same(line: Line, told: Answer) -> bool {
-    (line.x ^ told.x) | (line.y ^ told.y) | (line.z ^ told.z) == 0
+pub(crate) fn number(refusal: Refusal) -> u64 {
+    refusal.number() as u64
 }

@@ -17,6 +17,7 @@ pub enum TrapCause {
 }
 
 impl TrapCause {
+    // A match, as a cause that carries a word has no discriminant to cast.
     pub fn mcause_code(self) -> u64
         ensures { result ≡ (cause self).number }
     {
@@ -33,6 +34,7 @@ impl TrapCause {
     }
 }
 
+// A step goes on, traps or halts: one more than a Result says.
 #[derive(Clone, Copy)]
 pub enum StepResult {
     Ok,

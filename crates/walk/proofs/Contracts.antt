@@ -10,3 +10,6 @@ walk = record { total = λ κs a. tt; determined = λ κs a x y e f p q. (walkin
 
 is_walkable : Strong _ fn.is_walkable.Kinds.ps fn.is_walkable.Kinds.r fn.is_walkable.Reads.Pre fn.is_walkable.Reads.Post
 is_walkable = equation (λ κs a e f. refl)
+
+VirtPagePartialEq-eq : Strong _ fn.VirtPagePartialEq.eq.Kinds.ps fn.VirtPagePartialEq.eq.Kinds.r fn.VirtPagePartialEq.eq.Reads.Pre fn.VirtPagePartialEq.eq.Reads.Post
+VirtPagePartialEq-eq = equation (λ κs a e f. refl)

@@ -1,9 +1,8 @@
 -- How far a leaf reaches, in pages and in bytes. Assumes nothing.
-use Rattle.std.proofs.Common.{◌≡◌, ℕ, ◌+◌, ◌*◌, ◌%◌, ◌^◌, ◌<◌, eqb, sym, ap, ◌∙◌, add-zero, arith, pow_pos, eq-eqb, ne_eqb, eqb-true}
+use Rattle.std.proofs.Common.{◌≡◌, ℕ, ◌+◌, ◌*◌, ◌%◌, ◌^◌, ◌<◌, eqb, ◌∙◌, add-zero, arith, pow_pos}
+use Rattle.std.proofs.lemmas.Grind.{common_steps}
 use native.Mathlib.Nat.{mul-mod_left}
-use borrow.Author.Tests.{eqb-false}
 use lib.Pow.{mod-pow-add, shl-shr}
-use Rattle.answers.proofs.Orders.{by_test}
 use Rattle.walk.specs.Walk.{offset_bits}
 
 -- a size that the code has as n
@@ -14,9 +13,7 @@ size_positive level e = rw e (pow_pos (offset_bits level))
 pub page_aligned : (p l : ℕ) → eqb (p * 4096 % 2 ^ (l + 12)) 0 ≡ eqb (p % 2 ^ l) 0
 page_aligned p l =
     let e : p * 4096 % 2 ^ (l + 12) ≡ (p % 2 ^ l) * 4096 = mod-pow-add (p * 2 ^ 12) l 12 ∙ simp (shl-shr, mul-mod_left, add-zero) in
-    by_test (eqb (p % 2 ^ l) 0)
-    (λ t. let z = eqb-true (p % 2 ^ l) 0 t in rw t (eq-eqb (p * 4096 % 2 ^ (l + 12)) 0 (e ∙ ap (λ (n : ℕ). n * 4096) z)))
-    (λ t. let z = eqb-false (p % 2 ^ l) 0 t in rw t (ne_eqb (p * 4096 % 2 ^ (l + 12)) 0 (λ f. positive (p % 2 ^ l) z (sym e ∙ f))))
+    rw e (scaled (p % 2 ^ l))
   where
-    positive : (n : ℕ) → (n ≡ 0 → ⊥) → n * 4096 ≡ 0 → ⊥
-    positive n h f = h (omega arith)
+    scaled : (n : ℕ) → eqb (n * 4096) 0 ≡ eqb n 0
+    scaled n = grind (arith, common_steps)

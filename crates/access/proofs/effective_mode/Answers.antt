@@ -12,6 +12,3 @@ low_bits n = let e : n % 4 ≡ n % 4 % 4 = omega arith in rw (← e)
 pub returns-then-is_lent : goal.returns-then-is_lent
 returns-then-is_lent c =
     rw (sym c.is_lent.ensures ∙ c.if-is_lent.true) (c.from_bits.ensures ∙ low_bits (c.args.mstatus / 2 ^ 11))
-
-pub returns : goal.returns
-returns c = rw (sym c.is_lent.ensures ∙ c.if-is_lent.false)

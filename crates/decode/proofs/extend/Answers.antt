@@ -1,16 +1,12 @@
--- `decode::extend` meets its contract: a number of `bits` bits is its own low bits. Assumes nothing.
+-- `decode::extend` meets its contract: the law of the two shifts, at the bits of `val`. Assumes nothing.
 use mathlib.Core.Path.{ap, ◌∙◌}
-use native.Mathlib.Nat.{mod-eq_of_lt}
-use native.Mathlib.Omega.{arith}
-use lib.IntN.{ℤ}
-use Rattle.answers.specs.Bits.{signed, low}
-use Rattle.answers.proofs.Signs.{signed_below}
-use Rattle.answers.proofs.Shifts.{read_back}
+use mir.Syntax.{w64}
+use mir.Val.{of_z}
+use Rattle.answers.specs.Bits.{signed}
+use Rattle.answers.proofs.Shifts.{by_shifts, of_machine}
 use Rattle.decode.proofs.extend.Goals as goal
 
--- src/lib.rt:198:1
 pub returns : goal.returns
 returns c =
-    read_back _ c.shifted.type_inv ∙ c.shifted.ensures
-    ∙ ap (λ (z : ℤ). signed c.args.bits (low c.args.bits z)) (signed_below 64 c.args.val (omega arith))
-    ∙ ap (signed c.args.bits) (mod-eq_of_lt c.requires.2)
+    by_shifts (of_z w64 c.args.val) c.args.bits c.requires.0 c.requires.1
+    ∙ ap (signed c.args.bits) (of_machine c.args.val c.args.bits c.ranges.val.sfits c.requires.1)

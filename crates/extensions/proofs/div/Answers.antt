@@ -1,20 +1,18 @@
--- `extensions::div` meets its contract: a quotient of magnitudes, negated where the signs differ. Assumes nothing.
-use Rattle.std.proofs.Common.{ℕ, ◌<◌, ◌∙◌}
-use mathlib.Core.Path.{subst⁻¹}
-use Rattle.extensions.proofs.Division.{magnitude_pos, div_0, div_agree, div_differ}
+-- `extensions::div` meets its contract: the quotient of the magnitudes, with its sign. Assumes nothing.
+use Rattle.std.proofs.Common.{◌≡◌, pos, ◌∙◌}
+use Rattle.answers.specs.Bits.{low, extended}
+use Rattle.extensions.specs.Operands.{sgn}
+use Rattle.extensions.specs.Divide.{quotient}
+use Rattle.extensions.proofs.Registers.{passed}
+use Rattle.extensions.proofs.Division.{quotient_of}
+use Rattle.extensions.proofs.Words.{extended_again}
 use Rattle.extensions.proofs.div.Goals as goal
 
-pub returns-then-rhs-eq0 : goal.returns-then-rhs-eq0
-returns-then-rhs-eq0 c = div_0 c.args.lhs c.args.rhs c.if-rhs-eq0.true
-
-pub nonzero_div-q : goal.nonzero_div-q
-nonzero_div-q c =
-    subst⁻¹ (λ (n : ℕ). 0 < n) c.magnitude-2.ensures (magnitude_pos c.args.rhs c.ranges.rhs.fits c.if-rhs-eq0.false)
-
-pub returns-then-lhs-rhs : goal.returns-then-lhs-rhs
-returns-then-lhs-rhs c =
-    div_agree c.args.lhs c.args.rhs c.ranges.lhs.fits c.ranges.rhs.fits c.if-rhs-eq0.false c.magnitude.result c.magnitude-2.result c.magnitude.type_inv c.magnitude.ensures c.magnitude-2.ensures c.if-lhs-rhs.true
-
-pub returns-else-lhs-rhs : goal.returns-else-lhs-rhs
-returns-else-lhs-rhs c =
-    c.negate.ensures ∙ div_differ c.args.lhs c.args.rhs c.ranges.lhs.fits c.ranges.rhs.fits c.if-rhs-eq0.false c.magnitude.result c.magnitude-2.result c.magnitude.type_inv c.magnitude.ensures c.magnitude-2.ensures c.if-lhs-rhs.false
+pub returns : goal.returns
+returns g c =
+    let k = g.T.Operand.bits
+    in let n = passed c.signed-n.result c.signed-n.type_inv
+    in let d = passed c.signed-d.result c.signed-d.type_inv
+    in let q = quotient_of c.signed-n.result c.signed-d.result c.if-d-eq0.false
+    in let e : c.extend.result ≡ extended k (pos (low 64 (quotient (sgn k c.args.lhs) (sgn k c.args.rhs)))) = rw (c.with_sign.ensures, c.is_negative.ensures, c.is_negative-2.ensures, c.unsigned_abs.ensures.value, c.unsigned_abs-2.ensures.value, n, d, q, c.signed-n.ensures, c.signed-d.ensures) at c.extend.ensures
+    in e ∙ extended_again k g.met.T.Operand.some g.met.T.Operand.within (quotient (sgn k c.args.lhs) (sgn k c.args.rhs))

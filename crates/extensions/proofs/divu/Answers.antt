@@ -1,9 +1,12 @@
--- `extensions::divu` meets its contract. Assumes nothing.
-use Rattle.extensions.proofs.Division.{divu_0, unsigned_quotient}
+-- `extensions::divu` meets its contract: by zero all bits are set. Assumes nothing.
+use Rattle.std.proofs.Common.{◌∙◌, negsuc, ne_eqb, sym}
+use Rattle.extensions.proofs.Words.{extended_again}
 use Rattle.extensions.proofs.divu.Goals as goal
-
-pub returns-then-rhs-eq0 : goal.returns-then-rhs-eq0
-returns-then-rhs-eq0 c = divu_0 c.args.lhs c.args.rhs c.if-rhs-eq0.true
+use Rattle.extensions.proofs.divu.Goals.{then-d-eq0, else-d-eq0}
 
 pub returns : goal.returns
-returns c = unsigned_quotient c.args.lhs c.args.rhs c.ranges.lhs.fits c.ranges.rhs.fits c.if-rhs-eq0.false
+returns g c =
+    elim c.if-d-eq0.branch [
+      | then-d-eq0 w ↦ c.extend.ensures ∙ rw (sym c.unsigned-d.ensures, w.if-d-eq0.true, w.quotient-is) (extended_again g.T.Operand.bits g.met.T.Operand.some g.met.T.Operand.within (negsuc 0))
+      | else-d-eq0 w ↦ c.extend.ensures ∙ rw (sym c.unsigned-d.ensures, sym c.unsigned-n.ensures, w.quotient-is, ne_eqb c.unsigned-d.result 0 w.if-d-eq0.false)
+    ]

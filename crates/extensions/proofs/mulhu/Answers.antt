@@ -8,33 +8,6 @@ use Rattle.extensions.proofs.mulhu.Goals as goal
 fits : (a b : ℕ) → a < 2 ^ 64 → b < 2 ^ 64 → a / 2 ^ 32 * (b / 2 ^ 32) + a / 2 ^ 32 * (b % 2 ^ 32) / 2 ^ 32 + a % 2 ^ 32 * (b / 2 ^ 32) / 2 ^ 32 + (a % 2 ^ 32 * (b % 2 ^ 32) / 2 ^ 32 + a / 2 ^ 32 * (b % 2 ^ 32) % 2 ^ 32 + a % 2 ^ 32 * (b / 2 ^ 32) % 2 ^ 32) / 2 ^ 32 < 2 ^ 64
 fits a b la lb = omega (arith, bounds a b la lb)
 
-pub overflow_mul-hl : goal.overflow_mul-hl
-overflow_mul-hl c = omega (arith, bounds c.args.lhs c.args.rhs (omega arith) (omega arith))
-
-pub overflow_mul-lh : goal.overflow_mul-lh
-overflow_mul-lh c = omega (arith, bounds c.args.lhs c.args.rhs (omega arith) (omega arith))
-
-pub overflow_mul-mid : goal.overflow_mul-mid
-overflow_mul-mid c = omega (arith, bounds c.args.lhs c.args.rhs (omega arith) (omega arith))
-
-pub overflow_add-mid : goal.overflow_add-mid
-overflow_add-mid c = omega (arith, bounds c.args.lhs c.args.rhs (omega arith) (omega arith))
-
-pub overflow_add-mid-2 : goal.overflow_add-mid-2
-overflow_add-mid-2 c = omega (arith, bounds c.args.lhs c.args.rhs (omega arith) (omega arith))
-
-pub overflow_mul-result : goal.overflow_mul-result
-overflow_mul-result c = omega (arith, bounds c.args.lhs c.args.rhs (omega arith) (omega arith))
-
-pub overflow_add-result : goal.overflow_add-result
-overflow_add-result c = omega (arith, bounds c.args.lhs c.args.rhs (omega arith) (omega arith))
-
-pub overflow_add-result-2 : goal.overflow_add-result-2
-overflow_add-result-2 c = omega (arith, bounds c.args.lhs c.args.rhs (omega arith) (omega arith))
-
-pub overflow_add-result-3 : goal.overflow_add-result-3
-overflow_add-result-3 c = omega (arith, bounds c.args.lhs c.args.rhs (omega arith) (omega arith))
-
 pub returns : goal.returns
 returns c =
     let la : c.args.lhs < 2 ^ 64 = c.ranges.lhs.fits

@@ -7,6 +7,3 @@ use Rattle.mmu_words.proofs.new.Given as goal
 
 abbrev pub invariant-loop-i : goal.invariant-loop-i
 invariant-loop-i l = (l.mmu ≡ begun l.i (slot_count - l.i)) × (l.i ≤ slot_count)
-
-abbrev pub decreases-loop-i : goal.decreases-loop-i
-decreases-loop-i l = slot_count - l.i

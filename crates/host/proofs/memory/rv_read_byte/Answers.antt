@@ -1,9 +1,0 @@
--- `host::memory::rv_read_byte` meets its contract. Assumes nothing.
-use mathlib.Core.Path.{subst}
-use Prim.Native.Nat.{ℕ}
-use Rattle.answers.specs.Answer.{Answer}
-use Rattle.answers.specs.Gave.{Gave}
-use Rattle.host.proofs.memory.rv_read_byte.Goals as goal
-
-pub returns : goal.returns
-returns c = subst (λ (t : Answer ℕ). Gave t c.args.out.now c.give.result c.give.new.out) c.read_byte.ensures c.give.ensures

@@ -1,6 +1,0 @@
--- `mmu_words::put_shortcut` meets its contract. Assumes nothing.
-use native.Mathlib.Numerals.{unary_clauses}
-use Rattle.mmu_words.proofs.put_shortcut.Goals as goal
-
-pub returns : goal.returns
-returns c = simp unary_clauses
