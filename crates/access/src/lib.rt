@@ -26,7 +26,8 @@ pub struct Access {
     pub mxr: bool,
 }
 
-// Whether MPRV lends another mode.
+// Whether MPRV lends another mode. Kind, mode and mstatus are what an Access is made of, here and below, so they are no struct before it.
+#[tactic(auto, using(csr::proofs::Tested::bit_17))]
 fn is_lent(kind: Kind, mstatus: u64) -> bool
     ensures { result ≡ lends kind mstatus }
 {
@@ -36,6 +37,7 @@ fn is_lent(kind: Kind, mstatus: u64) -> bool
     }
 }
 
+// Whose mode counts: the one that MPP names, or the hart's own.
 fn effective_mode(kind: Kind, mode: PrivMode, mstatus: u64) -> PrivMode
     ensures { result ≡ effective_mode kind mode mstatus }
 {
@@ -68,6 +70,7 @@ fn has(leaf: u64, flag: u32) -> bool
 
 impl Access {
     // What a hart in this mode, with this mstatus, asks for.
+    #[tactic(auto, using(csr::proofs::Tested::bit_18, csr::proofs::Tested::bit_19), unfolding(crate::specs::Asked::access_of))]
     pub fn new(kind: Kind, mode: PrivMode, mstatus: u64) -> Self
         ensures { result ≡ access_of kind mode mstatus }
     {
@@ -137,6 +140,7 @@ impl Access {
 
 // Whether a leaf allows it whatever SUM and MXR are, to a hart whose own mode counts: the common case, as one comparison. The page's U and the
 // mode's number make 1 where the page is the mode's own, U's number being 0 and S's 1; the kind's flag and marks are set; MPRV is clear.
+// Each bit is cut out and weighed by hand, since a hit asks this, and a jump for each test took longer: docs/SPEED.md.
 pub fn is_plain(kind: Kind, privilege: u64, mstatus: u64, leaf: u64) -> bool
     ensures { result ≡ plain kind (mode_of privilege) mstatus leaf }
 {

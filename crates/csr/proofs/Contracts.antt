@@ -24,6 +24,9 @@ Csr-write_register = record { total = λ κs a. tt; determined = λ κs a x y e 
 Csr-pending_interrupt : Strong _ fn.Csr.pending_interrupt.Kinds.ps fn.Csr.pending_interrupt.Kinds.r fn.Csr.pending_interrupt.Reads.Pre fn.Csr.pending_interrupt.Reads.Post
 Csr-pending_interrupt = record { total = λ κs a. tt; determined = λ κs a x y e f p q. (choices x y (p ∙ sym q), refl) }
 
+Hart-of : Strong _ fn.Hart.of.Kinds.ps fn.Hart.of.Kinds.r fn.Hart.of.Reads.Pre fn.Hart.of.Reads.Post
+Hart-of = equation (λ κs a e f. refl)
+
 Hart-read_word : Strong _ fn.Hart.read_word.Kinds.ps fn.Hart.read_word.Kinds.r fn.Hart.read_word.Reads.Pre fn.Hart.read_word.Reads.Post
 Hart-read_word = record { total = λ κs a. tt; determined = λ κs a x y e f p q. (readings x y (p ∙ sym q), refl) }
 

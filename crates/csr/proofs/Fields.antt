@@ -21,10 +21,10 @@ module _ (j k w v : ℕ) where
 
 module _ (k w : ℕ) where
   -- two bits, all of whose mask is set
-  pub full : bit_and w (2 ^ (2 + k) - 2 ^ k) ≡ 3 * 2 ^ k → eqb (w / 2 ^ k % 4) 3 ≡ true
+  full : bit_and w (2 ^ (2 + k) - 2 ^ k) ≡ 3 * 2 ^ k → eqb (w / 2 ^ k % 4) 3 ≡ true
   full e = eq-eqb _ 3 (in_field 2 k w 3 e)
 
-  pub not_full : (bit_and w (2 ^ (2 + k) - 2 ^ k) ≡ 3 * 2 ^ k → ⊥) → eqb (w / 2 ^ k % 4) 3 ≡ false
+  not_full : (bit_and w (2 ^ (2 + k) - 2 ^ k) ≡ 3 * 2 ^ k → ⊥) → eqb (w / 2 ^ k % 4) 3 ≡ false
   not_full f = ne_eqb _ 3 (λ e. f (under_mask 2 k w 3 e))
 
   pub all_full : eqb (bit_and w (2 ^ (2 + k) - 2 ^ k)) (3 * 2 ^ k) ≡ eqb (w / 2 ^ k % 4) 3
@@ -34,12 +34,12 @@ module _ (k w : ℕ) where
       (λ e. e ∙ sym (not_full (eqb-false _ _ e)))
 
   -- one bit
-  pub on : (bit_and w (2 ^ (1 + k) - 2 ^ k) ≡ 0 → ⊥) → eqb (w / 2 ^ k % 2) 1 ≡ true
+  on : (bit_and w (2 ^ (1 + k) - 2 ^ k) ≡ 0 → ⊥) → eqb (w / 2 ^ k % 2) 1 ≡ true
   on f =
       let z : w / 2 ^ k % 2 ≡ 0 → ⊥ = λ e. f (under_mask 1 k w 0 e ∙ omega arith)
       in eq-eqb (w / 2 ^ k % 2) 1 (omega arith)
 
-  pub off : bit_and w (2 ^ (1 + k) - 2 ^ k) ≡ 0 → eqb (w / 2 ^ k % 2) 1 ≡ false
+  off : bit_and w (2 ^ (1 + k) - 2 ^ k) ≡ 0 → eqb (w / 2 ^ k % 2) 1 ≡ false
   off e =
       let z : w / 2 ^ k % 2 ≡ 0 = in_field 1 k w 0 (e ∙ omega arith)
       in ne_eqb (w / 2 ^ k % 2) 1 (λ g. omega arith)

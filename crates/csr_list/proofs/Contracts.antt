@@ -5,9 +5,3 @@ use Rattle.csr_list.proofs as fn
 
 place_of : Strong _ fn.place_of.Kinds.ps fn.place_of.Kinds.r fn.place_of.Reads.Pre fn.place_of.Reads.Post
 place_of = record { total = λ κs a. tt; determined = λ κs a x y e f p q. (p.0 ∙ sym q.0, refl) }
-
-place_in : Strong _ fn.place_in.Kinds.ps fn.place_in.Kinds.r fn.place_in.Reads.Pre fn.place_in.Reads.Post
-place_in = record { total = λ κs a. tt; determined = λ κs a x y e f p q. (p.0 ∙ sym q.0, refl) }
-
-entry_of : Strong _ fn.entry_of.Kinds.ps fn.entry_of.Kinds.r fn.entry_of.Reads.Pre fn.entry_of.Reads.Post
-entry_of = record { total = λ κs a. tt; determined = λ κs a x y e f p q. (p.0 ∙ sym q.0, refl) }

@@ -2,11 +2,11 @@
 ghost use Rattle.std.specs.Prelude.{◌≡◌};
 ghost use Rattle.answers.specs.Gave.{Gave, Found};
 ghost use Rattle.csr.specs.Modes.{mode_of};
-ghost use Rattle.csr.specs.Registers.{reset_words, hart_in, read_register, new_word, write_register, pending_in};
+ghost use Rattle.csr.specs.Registers.{reset_words, read_register, new_word, write_register, pending_in};
 
 use crate::given::give;
 use csr::{Csr, Hart, PrivMode};
-use csr_list::{MIDELEG_WORD, MIE_WORD, MIP_WORD, MISA_WORD, MSTATUS_WORD, Place};
+use csr_list::{MIE_WORD, MIP_WORD, MISA_WORD, MSTATUS_WORD, Place};
 
 #[unsafe(no_mangle)]
 pub extern "C" fn rv_csr_new(csr: &mut [u64; csr_list::WORDS])
@@ -26,8 +26,9 @@ pub extern "C" fn rv_csr_read(
 ) -> u32
     ensures { Gave (read_register csr.now address (mode_of privilege)) out.old result out.new }
 {
-    let Place { word, view } = csr_list::place_in(csr_list::entry_of(address));
-    give(hart(csr, privilege).read_word(view, csr[word]), out)
+    let Place { word, view } = csr_list::place_of(address);
+    let hart = Hart::of(csr, PrivMode::from_bits(privilege));
+    give(hart.read_word(view, csr[word]), out)
 }
 
 #[unsafe(no_mangle)]
@@ -39,14 +40,10 @@ pub extern "C" fn rv_csr_write(
 ) -> u32
     ensures { (result ≡ (new_word csr.old address value (mode_of privilege)).number) × (csr.new ≡ write_register csr.old address value (mode_of privilege)) }
 {
-    let Place { word, view } = csr_list::place_in(csr_list::entry_of(address));
-    match hart(csr, privilege).write_word(view, csr[word], value) {
-        Ok(taken) => {
-            csr[word] = taken;
-            0
-        }
-        Err(refusal) => refusal.number(),
-    }
+    let Place { word, view } = csr_list::place_of(address);
+    let hart = Hart::of(csr, PrivMode::from_bits(privilege));
+    let taken = hart.write_word(view, csr[word], value);
+    give(taken, &mut csr[word])
 }
 
 #[unsafe(no_mangle)]
@@ -61,21 +58,12 @@ pub extern "C" fn rv_csr_pending(
     if csr[MIP_WORD] & csr[MIE_WORD] == 0 {
         return false;
     }
-    match hart(csr, privilege).choose_interrupt(csr[MIP_WORD], csr[MIE_WORD]) {
+    let hart = Hart::of(csr, PrivMode::from_bits(privilege));
+    match hart.choose_interrupt(csr[MIP_WORD], csr[MIE_WORD]) {
         Some(bit) => {
             *out = bit;
             true
         }
         None => false,
-    }
-}
-
-fn hart(csr: &[u64; csr_list::WORDS], privilege: u64) -> Hart
-    ensures { result ≡ hart_in csr.now (mode_of privilege) }
-{
-    Hart {
-        mideleg: csr[MIDELEG_WORD],
-        mstatus: csr[MSTATUS_WORD],
-        mode: PrivMode::from_bits(privilege),
     }
 }

@@ -1,17 +1,14 @@
 // Runs the cases of document 01's inspection list that carry no star, and writes each with what is asked and what is found.
 #![tactic(auto)]
 
-ghost use Rattle.std.specs.Prelude.{◌≡◌};
-ghost use Rattle.answers.specs.Bits.{low};
-
 use access::Kind;
 use answers::Refusal;
 use csr::{Csr, Hart, PrivMode};
 use decode::Instruction;
 use extensions::Amo;
 use gpr::Gpr;
-use mmu::{Call, Failure, Mmu, Translation};
-use std::io;
+use mmu::{Arrival, Call, Failure, Mmu, Translation};
+use std::{fmt, io};
 
 fn main(rt: HostRuntime) -> io::Result<()> {
     immediates(&rt)?;
@@ -28,7 +25,7 @@ fn immediates(rt: &impl Print) -> io::Result<()> {
         rt,
         "U-immediate of 0x80000037",
         0xFFFF_FFFF_8000_0000,
-        two_complement(Instruction(0x8000_0037).imm_u()),
+        Instruction(0x8000_0037).imm_u().cast_unsigned(),
     )
 }
 
@@ -114,10 +111,10 @@ fn walks(rt: &impl Print) -> io::Result<()> {
     let mut memory = [0; 16384];
     put(rt, &mut memory, 0x1000, 0x4CF)?;
     let unaligned = load(&memory, 0);
-    translated(rt, "0x4CF at 0x1000, load of 0", 13, 0, 1, unaligned)?;
+    translated(rt, "0x4CF at 0x1000, load of 0", fault(13, 0, 1), unaligned)?;
     put(rt, &mut memory, 0x1000, 0x401)?;
     let circular = load(&memory, 0);
-    translated(rt, "0x401 at 0x1000, load of 0", 13, 0, 3, circular)
+    translated(rt, "0x401 at 0x1000, load of 0", fault(13, 0, 3), circular)
 }
 
 fn load(memory: &[u8], address: u64) -> Translation {
@@ -145,24 +142,30 @@ fn store_calls(rt: &impl Print, memory: &[u8]) -> io::Result<()> {
     translated(
         rt,
         "0x144F at 0x3000, store to 0x123",
-        15,
-        0x123,
-        3,
+        fault(15, 0x123, 3),
         first.answer,
     )?;
     let again = first.mmu.translate(asked(Kind::Store, memory, 0x123));
-    translated(rt, "store to 0x123 again", 15, 0x123, 3, again.answer)?;
+    translated(
+        rt,
+        "store to 0x123 again",
+        fault(15, 0x123, 3),
+        again.answer,
+    )?;
     let other = again.mmu.translate(asked(Kind::Store, memory, 0x1000));
     translated(
         rt,
         "0x184F at 0x3008, store to 0x1000",
-        15,
-        0x1000,
-        3,
+        fault(15, 0x1000, 3),
         other.answer,
     )?;
     let walked = other.mmu.translate(asked(Kind::Store, memory, 0x123));
-    translated(rt, "store to 0x123 after that", 15, 0x123, 3, walked.answer)
+    translated(
+        rt,
+        "store to 0x123 after that",
+        fault(15, 0x123, 3),
+        walked.answer,
+    )
 }
 
 // A page table entry.
@@ -190,41 +193,61 @@ fn answered(
     }
 }
 
-// A translation's number, 0 or the fault's; then the address, and the entries read.
-fn translated(
-    rt: &impl Print,
-    case: &str,
+// What a translation tells: its number, 0 or the fault's; then the address, and the entries read.
+#[derive(Clone, Copy)]
+struct Told {
     number: u64,
     value: u64,
     reads: u64,
-    answer: Translation,
-) -> io::Result<()> {
-    print!(rt; "{case}: asked ")?;
-    outcome(rt, number, value, reads)?;
-    print!(rt; ", found ")?;
-    match answer {
-        Ok(found) => outcome(rt, 0, found.address, found.reads)?,
-        Err(Failure::Fault { fault, reads }) => outcome(rt, fault.mcause(), fault.tval(), reads)?,
-        Err(Failure::Refused(refusal)) => print!(rt; "refusal, no. {}", refusal.number())?,
-    }
-    println!(rt)
 }
 
-fn outcome(rt: &impl Print, number: u64, value: u64, reads: u64) -> io::Result<()> {
-    print!(rt; "no. {number} 0x{value:x} reads {reads}")
+impl fmt::Display for Told {
+    fn fmt<W: fmt::Write>(&self, f: &mut fmt::Formatter<W>) -> fmt::Result {
+        write!(
+            f,
+            "no. {} 0x{:x} reads {}",
+            self.number, self.value, self.reads
+        )
+    }
+}
+
+// A page fault: a load's is no. 13, a store's no. 15.
+fn fault(number: u64, value: u64, reads: u64) -> Told {
+    Told {
+        number,
+        value,
+        reads,
+    }
+}
+
+fn told_of(answer: Translation) -> Result<Told, Refusal> {
+    match answer {
+        Ok(Arrival { address, reads }) => Ok(Told {
+            number: 0,
+            value: address,
+            reads,
+        }),
+        Err(Failure::Fault { fault, reads }) => Ok(Told {
+            number: fault.mcause(),
+            value: fault.tval(),
+            reads,
+        }),
+        Err(Failure::Refused(refusal)) => Err(refusal),
+    }
+}
+
+fn translated(rt: &impl Print, case: &str, asked: Told, answer: Translation) -> io::Result<()> {
+    match told_of(answer) {
+        Ok(found) => println!(rt; "{case}: asked {asked}, found {found}"),
+        Err(refusal) => {
+            println!(rt;
+                "{case}: asked {asked}, found refusal, no. {}",
+                refusal.number()
+            )
+        }
+    }
 }
 
 fn refused(rt: &impl Print, case: &str, refusal: Refusal) -> io::Result<()> {
     println!(rt; "{case}: refused, no. {}", refusal.number())
-}
-
-// The bits of a signed number.
-fn two_complement(v: i64) -> u64
-    ensures { result ≡ low 64 v }
-{
-    if 0 <= v {
-        v as u64
-    } else {
-        u64::MAX - (-1 - v) as u64
-    }
 }

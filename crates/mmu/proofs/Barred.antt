@@ -3,14 +3,15 @@
 -- Assumes nothing.
 use Rattle.std.specs.Prelude.{Err}
 use mathlib.Core.Path.{◌≡◌, sym, ap, ◌∙◌}
-use mathlib.Core.Bool.{Bool, true, false, not, ◌&&◌}
+use mathlib.Core.Bool.{Bool, true, false, not, ◌&&◌, false≢true}
 use mathlib.Core.List.{List, [], ◌∷◌}
 use Prim.Native.Nat.{ℕ, zero, suc, ◌%◌, ◌^◌, ◌<◌}
 use native.Mathlib.Omega.{arith}
 use borrow.Author.Tests.{eqb-true, not-true}
 use lib.Dec.{eqb}
 use lib.ListN.{get_or, replicate}
-use Rattle.answers.proofs.Orders.{by_test, and_left, and_right, false_true}
+use Rattle.std.proofs.lemmas.Bool.{and_parts}
+use Rattle.answers.proofs.Orders.{by_test}
 use Rattle.access.specs.Allowed.{allows}
 use Rattle.walk.specs.Walk.{found, canonical, walkable, levels, askable}
 use Rattle.walk.proofs.Agree.{canonical_page}
@@ -34,17 +35,17 @@ use Rattle.mmu.proofs.Sound.{slot_hit, short_hit, translate_ind, set_keeps, held
 -- a slot that is found has the page for its tag; a shortcut that is found is for it
 tag_of : (y : TlbEntry) (epoch : ℕ) (x : Access) (pg : VirtPage) → held y epoch x pg ≡ true → y.tag ≡ pg
 unfolding live
-tag_of y epoch x pg h = ap virt (eqb-true y.tag.0 pg.0 (and_left (eqb y.tag.0 pg.0) (eqb y.epoch epoch) (held_live y epoch x pg h)))
+tag_of y epoch x pg h = ap virt (eqb-true y.tag.0 pg.0 (and_parts (eqb y.tag.0 pg.0) (eqb y.epoch epoch) (held_live y epoch x pg h)).0)
 
 page_of_lem : (x : Access) (q : Shortcut) (satp : ℕ) (pg : VirtPage) → quick x q satp pg ≡ true → q.page ≡ pg
 unfolding quick matches
 page_of_lem x q satp pg = go x.kind
   where
     same : (b d : Bool) → ((eqb q.page.0 pg.0 && b) && d) ≡ true → q.page ≡ pg
-    same b d h = ap virt (eqb-true q.page.0 pg.0 (and_left (eqb q.page.0 pg.0) b (and_left _ d h)))
+    same b d h = ap virt (eqb-true q.page.0 pg.0 (and_parts (eqb q.page.0 pg.0) b (and_parts _ d h).0).0)
 
     go : (k : Kind) → quick_kind k ((eqb q.page.0 pg.0 && eqb q.satp satp) && allows x q.leaf) ≡ true → q.page ≡ pg
-    go Fetch h = absurd (false_true h)
+    go Fetch h = absurd (false≢true h)
     go Load h = same _ _ h
     go Store h = same _ _ h
 
@@ -64,8 +65,8 @@ module _ (n : ℕ) (c : Call) (small : c.address < 2 ^ 64) (odd : canonical leve
   other : (d : Call) (t e : ℕ) → fresh_walk d ≡ found t e → page_of d.address ≡ page → ⊥
   unfolding fresh_walk
   other d t e w p =
-      let asked : canonical levels d.address ≡ true = and_right (walkable d.satp) (canonical levels d.address) (found_asked d.access d.memory d.address d.satp w)
-      in false_true (sym odd ∙ canonical_page levels c.address d.address (omega arith) (sym (ap (λ (q : VirtPage). q.0) p)) ∙ asked)
+      let asked : canonical levels d.address ≡ true = (and_parts (walkable d.satp) (canonical levels d.address) (found_asked d.access d.memory d.address d.satp w)).1
+      in false≢true (sym odd ∙ canonical_page levels c.address d.address (omega arith) (sym (ap (λ (q : VirtPage). q.0) p)) ∙ asked)
 
   not_none : no_page ≡ page → ⊥
   not_none e = let z : no_page.0 ≡ page.0 = ap (λ (p : VirtPage). p.0) e in omega arith
@@ -74,7 +75,7 @@ module _ (n : ℕ) (c : Call) (small : c.address < 2 ^ 64) (odd : canonical leve
   unfolding canonical
   not_zero e =
       let z : 0 ≡ page.0 = ap (λ (p : VirtPage). p.0) e
-      in false_true (sym odd ∙ canonical_page levels c.address 0 (omega arith) (sym z))
+      in false≢true (sym odd ∙ canonical_page levels c.address 0 (omega arith) (sym z))
 
   unknown_remember : (s : Mmu) (d : Call) (frame : PhysPage) (leaf : ℕ) → (page_of d.address ≡ page → ⊥) → Unknown n page s → Unknown n page (remember s d frame leaf)
   unfolding remember slot_at
@@ -131,10 +132,10 @@ module _ (n : ℕ) (s : Mmu) (c : Call) (p : paged c ≡ true) (bar : askable c.
   walked_away m = rw (m, barred_lost c.access c.memory c.address c.satp bar, barred_unread c.access c.memory c.address c.satp bar)
 
   u : accepts c ≡ true
-  u = and_left (accepts c) (not (unpaged c.access c.satp)) p
+  u = (and_parts (accepts c) (not (unpaged c.access c.satp)) p).0
 
   v : unpaged c.access c.satp ≡ false
-  v = not-true (unpaged c.access c.satp) (and_right (accepts c) (not (unpaged c.access c.satp)) p)
+  v = not-true (unpaged c.access c.satp) (and_parts (accepts c) (not (unpaged c.access c.satp)) p).1
 
   -- whatever the state, if satp names no tables
   no_tables : walkable c.satp ≡ false → outcome_on n s c ≡ Stay (turned_away c)

@@ -1,6 +1,6 @@
 -- An outcome on the words, from the parts that the code reads of them: a slot y, the epoch e and a shortcut q; and from the call d that it forms.
 -- Assumes nothing.
-use mathlib.Core.Path.{◌≡◌, ap, ◌∙◌}
+use mathlib.Core.Path.{◌≡◌, ◌∙◌}
 use mathlib.Core.List.{List}
 use Prim.Native.Nat.{ℕ}
 use Rattle.mmu.specs.Answers.{outcome}

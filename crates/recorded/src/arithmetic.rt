@@ -38,7 +38,8 @@ fn atomic(line: &Line, memory_value: u64, src: u64) -> Verdict {
     Verdict::Unread
 }
 
-// The operation that a function is, where those of a width begin with the first.
+// The operation that a function is, where those of a width begin with the first. (These are the list's own numbers, and the type another crate's: so
+// this is no TryFrom.)
 fn operation(function: u64, first: u64) -> Option<Amo> {
     match function.checked_sub(first)? {
         0 => Some(Amo::Swap),

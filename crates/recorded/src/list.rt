@@ -61,7 +61,7 @@ impl<'a> Line<'a> {
     // What comes of a line on a state, whose call tells this and leaves these words. The line has to be understood to its end. Where the call
     // left others than the line says, it tells something else than the line. A line that sets words has no columns.
     pub(crate) fn settle(&self, told: Verdict, words: &mut [u64], left: &[u64]) -> Verdict {
-        if !self.change(words) {
+        if self.change(words).is_none() {
             return Verdict::Unread;
         }
         match told {
@@ -74,16 +74,13 @@ impl<'a> Line<'a> {
 
     // Puts the words that a line says were changed where they belong. Whether the line then ends: it does where it names words that there are,
     // and no more than there are.
-    fn change(&self, words: &mut [u64]) -> bool {
+    fn change(&self, words: &mut [u64]) -> Option<()> {
         let mut changes = self.changes;
         changes.skip(b" ;");
         for (place, value) in iter::from_fn(|| changes.pair()).take(words.len()) {
-            let Some(word) = words.get_mut(place as usize) else {
-                return false;
-            };
-            *word = value;
+            *words.get_mut(place as usize)? = value;
         }
-        changes.is_end()
+        changes.is_end().then_some(())
     }
 }
 

@@ -45,8 +45,7 @@ fn call(line: &Line, memory: &mut [u8]) -> Verdict {
 
 // The bytes to load, up to four, are those of a number, the lowest first.
 fn load(memory: &mut [u8], offset: usize, count: usize, value: u64) -> Result<(), Refusal> {
-    match narrow::word(value).to_le_bytes().get(..count) {
-        Some(bytes) => system_bus::load_at(memory, offset, bytes),
-        None => Err(Refusal::LoadRange),
-    }
+    let bytes = narrow::word(value).to_le_bytes();
+    let bytes = bytes.get(..count).ok_or(Refusal::LoadRange)?;
+    system_bus::load_at(memory, offset, bytes)
 }

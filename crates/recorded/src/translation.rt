@@ -96,7 +96,7 @@ fn columns(answer: Translation) -> [u64; 3] {
     }
 }
 
-// The state that these words are.
+// The state that these words are, by the list's own layout: the door keeps its to itself.
 fn held(words: &[u64; WORDS]) -> Mmu {
     let (entries, _) = words[1..].as_chunks();
     Mmu {

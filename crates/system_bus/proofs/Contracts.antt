@@ -1,9 +1,24 @@
 -- The contract of each public function takes anything and allows one outcome. Assumes nothing.
+use contract.BorrowLft.{⊑_static}
+use denote.Builtin.{u8, u16, u32, u64}
 use mathlib.Core.Path.{refl, sym, ◌∙◌}
 use Rattle.answers.specs.Strong.{Strong, Lasting}
 use Rattle.answers.proofs.Determined.{acceptances, readings}
 use Rattle.answers.proofs.Strong.{equation, both}
 use Rattle.system_bus.proofs as fn
+
+-- A generic function's contract is strong at every type that outlives the call, whatever its impl of Stored says. These four outlive all calls.
+byte : Lasting u8
+byte = ⊑_static
+
+halfword : Lasting u16
+halfword = ⊑_static
+
+word : Lasting u32
+word = ⊑_static
+
+doubleword : Lasting u64
+doubleword = ⊑_static
 
 usable : Strong _ fn.usable.Kinds.ps fn.usable.Kinds.r fn.usable.Reads.Pre fn.usable.Reads.Post
 usable = equation (λ κs a e f. refl)

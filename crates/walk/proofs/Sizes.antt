@@ -1,13 +1,8 @@
 -- How far a leaf reaches, in pages and in bytes. Assumes nothing.
-use Rattle.std.proofs.Common.{◌≡◌, ℕ, ◌+◌, ◌*◌, ◌%◌, ◌^◌, ◌<◌, eqb, ◌∙◌, add-zero, arith, pow_pos}
+use Rattle.std.proofs.Common.{◌≡◌, ℕ, ◌+◌, ◌*◌, ◌%◌, ◌^◌, eqb, ◌∙◌, add-zero, arith}
 use Rattle.std.proofs.lemmas.Grind.{common_steps}
 use native.Mathlib.Nat.{mul-mod_left}
 use lib.Pow.{mod-pow-add, shl-shr}
-use Rattle.walk.specs.Walk.{offset_bits}
-
--- a size that the code has as n
-pub size_positive : (level : ℕ) {n : ℕ} → n ≡ 2 ^ offset_bits level → 0 < n
-size_positive level e = rw e (pow_pos (offset_bits level))
 
 -- a page p is a multiple of 2^l pages exactly if its first byte is one of 2^(l + 12) bytes
 pub page_aligned : (p l : ℕ) → eqb (p * 4096 % 2 ^ (l + 12)) 0 ≡ eqb (p % 2 ^ l) 0

@@ -1,7 +1,7 @@
--- `csr_list::place_of` meets its contract: the place is the one that its entry holds. Assumes nothing.
+-- `csr_list::place_of` meets its contract: what no arm of the table names is in no range of the list. Assumes nothing.
 use native.Mathlib.Omega.{arith}
-use Rattle.csr_list.proofs.Places.{held}
+use Rattle.csr_list.proofs.Places.{nowhere}
 use Rattle.csr_list.proofs.place_of.Goals as goal
 
-pub returns : goal.returns
-returns c = (held _ c.entry_of.ensures.0 c.place_in.ensures.0, omega arith)
+pub returns-in_default : goal.returns-in_default
+returns-in_default c = nowhere (grind arith) c.at-in_default.ensures

@@ -1,12 +1,14 @@
--- `host::registers::rv_gpr_read_f` meets its contract: the test of the register's number says which case of the definition holds. Assumes nothing.
-use mathlib.Core.Path.{refl, sym}
-use borrow.Author.Tests.{lt-ltb, le-ltb}
-use lib.Seq.{get_or-drop}
+-- `host::registers::rv_gpr_read_f` meets its contract: the 32 words that are looked at are the floats. Assumes nothing.
+use mathlib.Core.Path.{ap, ◌∙◌, subst}
+use mathlib.Core.List.{List}
+use Prim.Native.Nat.{ℕ}
+use Rattle.answers.specs.Answer.{Answer}
+use Rattle.answers.specs.Gave.{Gave}
+use Rattle.gpr.specs.Registers.{read_f}
+use Rattle.host.proofs.Parts.{last_part}
 use Rattle.host.proofs.registers.rv_gpr_read_f.Goals as goal
-
-pub returns-then-reg-gt31 : goal.returns-then-reg-gt31
-returns-then-reg-gt31 c = simp (lt-ltb 31 _ c.if-reg-gt31.true) (record { number = c.number.ensures; out = refl })
 
 pub returns : goal.returns
 returns c =
-    simp (le-ltb 31 _ c.if-reg-gt31.false) (record { number = refl; out = sym (get_or-drop 33 c.args.regs.now c.args.reg 0) })
+    let e = c.word_of.ensures ∙ ap (λ (fs : List ℕ). read_f fs c.args.reg) (last_part c.args.regs.now c.told-regs)
+    in subst (λ (t : Answer ℕ). Gave t c.args.out.now c.give.result c.give.new.out) e c.give.ensures
