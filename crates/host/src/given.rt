@@ -17,6 +17,7 @@ pub(crate) fn give<T: Copy>(answer: Result<T, Refusal>, out: &mut T) -> u32
     }
 }
 
+// Of an answer without a value. (By `give` each caller would lend it a place for (), which is no plainer.)
 pub(crate) fn number_of(answer: Result<(), Refusal>) -> u32
     ensures { result ≡ (acceptance answer).number }
 {

@@ -37,7 +37,7 @@ pub extern "C" fn rv_gpr_read(regs: &[u64; WORDS], reg: usize, out: &mut u64) ->
 pub extern "C" fn rv_gpr_write(regs: &mut [u64; WORDS], reg: usize, value: u64) -> u32
     ensures { (result ≡ (register_answer reg).number) × (regs.new ≡ write_x regs.old reg value) }
 {
-    // A test of its own: with `put` after that of x0 it was an instruction longer.
+    // Not by `put`: x0 is accepted and left, so that a test of the number stands here all the same, and the form would be no plainer.
     if 31 < reg {
         return Refusal::Register.number();
     }

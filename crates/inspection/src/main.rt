@@ -193,7 +193,7 @@ fn answered(
     }
 }
 
-// What a translation tells: its number, 0 or the fault's; then the address, and the entries read.
+// What a translation tells, as it is printed: its number, 0 or the fault's; then the address, and the entries read.
 #[derive(Clone, Copy)]
 struct Told {
     number: u64,

@@ -21,6 +21,7 @@ pub(crate) fn replay(line: &Line) -> Verdict {
     }
 }
 
+// The cause of a number. (These are the list's own numbers, and the type another crate's: so this is no TryFrom.)
 fn cause_of(number: u64, word: u32) -> Option<TrapCause> {
     match number {
         0 => Some(TrapCause::InstructionAddressMisaligned),

@@ -12,6 +12,7 @@ pub(crate) struct Control {
 impl Control {
     pub(crate) fn replay(&mut self, line: &Line) -> Verdict {
         let (told, left) = call(line, Csr { words: self.words });
+        // The call that makes the state anew: the line's changes are to zeros.
         if line.function == 0 {
             *self = Control::default();
         }

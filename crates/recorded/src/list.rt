@@ -3,7 +3,8 @@
 use crate::told::Verdict;
 use std::{array, iter};
 
-// A line. Of the columns that it may have, those that are there come first.
+// A line. Of the columns that it may have, those that are there come first. The function is a number, as the text has it: a module's calls take and
+// give different things, so that a match in each is plainer than closures or a table.
 #[derive(Clone, Copy)]
 pub(crate) struct Line<'a> {
     pub letter: u8,
@@ -123,7 +124,7 @@ impl Columns<'_> {
         Some(number)
     }
 
-    // As many digits as there are, or as there is room for.
+    // As many digits as there are, or as there is room for. (Nothing is counted: the slice is consumed, and a byte that is no digit stays in it.)
     fn digits(&mut self) -> Option<u64> {
         let mut number = None;
         while let Some((byte, rest)) = self.0.split_first()

@@ -15,6 +15,7 @@ pub(crate) struct Registers {
 impl Registers {
     pub(crate) fn replay(&mut self, line: &Line) -> Verdict {
         let (told, left) = call(line, held(&self.words));
+        // The call that makes the state anew: the line's changes are to zeros.
         if line.function == 0 {
             *self = Registers::default();
         }

@@ -55,6 +55,7 @@ impl Translations {
             4..=7 => line.says(3, &answer),
             _ => Verdict::Unread,
         };
+        // The call that makes the state anew: the line's changes are to zeros.
         if line.function == 0 {
             self.words = [0; WORDS];
             self.tables = [0; BYTES];

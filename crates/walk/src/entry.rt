@@ -43,7 +43,7 @@ impl Entry {
         self.0 % 2 == 1 && !self.is_write_only() && self.0 >> 54 == 0
     }
 
-    // W without R.
+    // W without R. (Here and below two flags are each tested where they stand: a shared test of a place, as access has one, would be no plainer.)
     fn is_write_only(self) -> bool
         ensures { result ≡ (is_w self.0 && not (is_r self.0)) }
     {
