@@ -16,7 +16,11 @@ impl Control {
         if line.function == 0 {
             *self = Control::default();
         }
-        line.settle(told, &mut self.words, &left.words)
+        line.settle(
+            told,
+            &mut self.words,
+            |words| words == left.words.as_slice(),
+        )
     }
 }
 

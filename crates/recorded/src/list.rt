@@ -48,27 +48,42 @@ impl<'a> Line<'a> {
         count(&self.inputs) == inputs && count(&self.answers) == answers
     }
 
+    // Whether these are its answers, of which there are as many.
+    fn tells(&self, answers: &[u64]) -> bool {
+        self.answers
+            .iter()
+            .zip(answers)
+            .all(|(column, answer)| *column == Some(*answer))
+    }
+
     // What comes of a line whose call takes so many inputs and answers this.
     pub(crate) fn says(&self, inputs: usize, answers: &[u64]) -> Verdict {
         if !self.has(inputs, answers.len()) {
             Verdict::Unread
-        } else if self.answers.iter().flatten().eq(answers) {
+        } else if self.tells(answers) {
             Verdict::Same
         } else {
             Verdict::Differs
         }
     }
 
-    // What comes of a line on a state, whose call tells this and leaves these words. The line has to be understood to its end. Where the call
-    // left others than the line says, it tells something else than the line. A line that sets words has no columns.
-    pub(crate) fn settle(&self, told: Verdict, words: &mut [u64], left: &[u64]) -> Verdict {
+    // What comes of a line on a state, whose call tells this. The line has to be understood to its end. Where the call left other words than the
+    // line says, it tells something else than the line. A line that sets words has no columns.
+    pub(crate) fn settle<F: Fn(&[u64]) -> bool>(
+        &self,
+        told: Verdict,
+        words: &mut [u64],
+        is_left: F,
+    ) -> Verdict
+        requires { F.IsAlwaysCallable is_left }
+    {
         if self.change(words).is_none() {
             return Verdict::Unread;
         }
         match told {
             Verdict::Remark if self.has(0, 0) => Verdict::Remark,
             Verdict::Remark => Verdict::Unread,
-            _ if &*words != left => Verdict::Differs,
+            _ if !is_left(words) => Verdict::Differs,
             _ => told,
         }
     }
@@ -85,8 +100,11 @@ impl<'a> Line<'a> {
     }
 }
 
-fn count(columns: &[Option<u64>]) -> usize {
-    columns.iter().flatten().count()
+// (A sum, and no filter: so few columns are counted without a jump.)
+fn count<const N: usize>(columns: &[Option<u64>; N]) -> usize {
+    columns.iter().fold(0, |count: usize, column| {
+        count.wrapping_add(column.is_some() as usize)
+    })
 }
 
 // What is left of a line.
@@ -139,9 +157,10 @@ impl Columns<'_> {
 
 // The number with one more digit, of the lower case, if its 64 bits have room for it.
 fn with_digit(number: u64, byte: u8) -> Option<u64> {
-    if byte.is_ascii_uppercase() {
-        return None;
-    }
-    let digit = char::from(byte).to_digit(16)?;
-    number.checked_mul(16)?.checked_add(u64::from(digit))
+    let digit = match byte {
+        b'0'..=b'9' => byte - b'0',
+        b'a'..=b'f' => byte - b'a' + 10,
+        _ => return None,
+    };
+    Some(number.checked_mul(16)? | u64::from(digit))
 }

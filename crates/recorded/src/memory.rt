@@ -4,16 +4,19 @@ use crate::told::Verdict;
 use crate::{narrow, told};
 use answers::Refusal;
 
+const BYTES: usize = 4096;
+
 #[derive(Default, Drop)]
 pub(crate) struct Memory {
-    words: [u64; 4096],
+    words: [u64; BYTES],
 }
 
 impl Memory {
     pub(crate) fn replay(&mut self, line: &Line) -> Verdict {
-        let mut bytes = self.words.map(narrow::byte);
+        let mut bytes = [0; BYTES];
+        hold(&mut bytes, &self.words);
         let told = call(line, &mut bytes);
-        line.settle(told, &mut self.words, &bytes.map(u64::from))
+        line.settle(told, &mut self.words, |words| is(&bytes, words))
     }
 }
 
@@ -48,4 +51,20 @@ fn load(memory: &mut [u8], offset: usize, count: usize, value: u64) -> Result<()
     let bytes = narrow::word(value).to_le_bytes();
     let bytes = bytes.get(..count).ok_or(Refusal::LoadRange)?;
     system_bus::load_at(memory, offset, bytes)
+}
+
+// The memory that these words are.
+fn hold(memory: &mut [u8; BYTES], words: &[u64; BYTES]) {
+    for (byte, word) in memory.iter_mut().zip(words) {
+        *byte = narrow::byte(*word);
+    }
+}
+
+// Whether the memory is these words. (All of them are looked at, without an early end: so several are at once.)
+fn is(memory: &[u8; BYTES], words: &[u64]) -> bool {
+    let apart = memory.iter().zip(words).fold(
+        0,
+        |apart, (byte, word)| apart | (u64::from(*byte) ^ *word),
+    );
+    apart == 0
 }

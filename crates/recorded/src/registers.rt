@@ -19,7 +19,11 @@ impl Registers {
         if line.function == 0 {
             *self = Registers::default();
         }
-        line.settle(told, &mut self.words, &words_of(&left))
+        line.settle(
+            told,
+            &mut self.words,
+            |words| words == words_of(&left).as_slice(),
+        )
     }
 }
 

@@ -47,6 +47,8 @@ impl Translations {
         Verdict::Remark
     }
 
+    // (Not set into its callers: so the state and its copies have room on the stack while such a call lasts, and not while the list does.)
+    #[inline(never)]
     fn translate(&mut self, line: &Line) -> Verdict {
         let (answer, left) = self.call(line);
         let told = match line.function {
@@ -60,7 +62,7 @@ impl Translations {
             self.words = [0; WORDS];
             self.tables = [0; BYTES];
         }
-        line.settle(told, &mut self.words, &words_of(&left))
+        line.settle(told, &mut self.words, |words| is(&left, words))
     }
 
     // What a call answers, with as many bytes of memory as the line says, and the state that it leaves. One that answers nothing tells zeros.
@@ -71,16 +73,31 @@ impl Translations {
         let Some(memory) = self.tables.get(..length as usize) else {
             return ([0; 3], mmu);
         };
-        let asked = |kind| Call::new(kind, memory, address, satp, mode, self.mstatus);
         match line.function {
             0 => ([0; 3], Mmu::new()),
             3 => ([0; 3], mmu.flush()),
-            4 => translated(mmu.translate(asked(Kind::Fetch))),
-            5 => translated(mmu.translate(asked(Kind::Load))),
-            6 => translated(mmu.translate(asked(Kind::Store))),
-            7 => (columns(Mmu::translate_readable(asked(Kind::Load))), mmu),
-            _ => ([0; 3], mmu),
+            7 => {
+                let answer = Mmu::translate_readable(memory, address, satp, mode, self.mstatus);
+                (columns(answer), mmu)
+            }
+            function => match kind_of(function) {
+                Some(kind) => {
+                    let call = Call::new(kind, memory, address, satp, mode, self.mstatus);
+                    translated(mmu.translate(call))
+                }
+                None => ([0; 3], mmu),
+            },
         }
+    }
+}
+
+// What a translation is for. (So one call stands for all three, as each would have room of its own on the stack for the state that it leaves.)
+fn kind_of(function: u64) -> Option<Kind> {
+    match function {
+        4 => Some(Kind::Fetch),
+        5 => Some(Kind::Load),
+        6 => Some(Kind::Store),
+        _ => None,
     }
 }
 
@@ -108,17 +125,22 @@ fn held(words: &[u64; WORDS]) -> Mmu {
     }
 }
 
-// The words that this state is.
-fn words_of(mmu: &Mmu) -> [u64; WORDS] {
-    let mut words = [0; WORDS];
-    words[0] = mmu.epoch as u64;
-    let (entries, _) = words[1..].as_chunks_mut();
-    entries[0] = shortcut_words(&mmu.load);
-    entries[1] = shortcut_words(&mmu.store);
-    for (entry, slot) in entries[2..].iter_mut().zip(&mmu.tlb) {
-        *entry = slot_words(slot);
-    }
-    words
+// Whether this state is these words. (They are held to it where they stand: the words of the state would be one more array of its size.)
+fn is(mmu: &Mmu, words: &[u64]) -> bool {
+    let [epoch, entries @ ..] = words else {
+        return false;
+    };
+    let (entries, _) = entries.as_chunks();
+    let [load, store, slots @ ..] = entries else {
+        return false;
+    };
+    *epoch == mmu.epoch as u64
+        && *load == shortcut_words(&mmu.load)
+        && *store == shortcut_words(&mmu.store)
+        && slots
+            .iter()
+            .zip(&mmu.tlb)
+            .all(|(entry, slot)| *entry == slot_words(slot))
 }
 
 fn slot([tag, frame, leaf, epoch]: [u64; 4]) -> TlbEntry {
