@@ -1,6 +1,6 @@
 -- Every atomic operation commutes with sign extension, over the width: of what it makes of two values of k bits that were extended to
 -- 64, the low k bits are what it makes of the values. Assumes nothing.
-use Rattle.std.proofs.Common.{◌≡◌, ℕ, ◌+◌, ◌-◌, ◌%◌, ◌^◌, ◌<◌, ◌≤◌, Bool, true, false, cond, ltb, pos, sym, ap, ◌∙◌, mod-lt, mod-eq_of_lt, arith, pow_pos, pow_mono, le-ltb, lt-ltb}
+use Rattle.std.proofs.Common.{◌≡◌, ℕ, ◌+◌, ◌-◌, ◌%◌, ◌^◌, ◌<◌, ◌≤◌, Bool, true, false, cond, ltb, pos, sym, ap, ◌∙◌, mod-lt, mod-eq_of_lt, arith, pow_pos, pow_mono}
 use mathlib.Core.Path.{subst}
 use native.Mathlib.Nat.{add-mod}
 use lib.Bits.{and_mod, or_mod, xor_mod}
@@ -9,6 +9,7 @@ use lib.Signed.{lt_z}
 use Rattle.answers.specs.Bits.{signed, low, extended}
 use Rattle.answers.proofs.Orders.{by_order}
 use Rattle.answers.proofs.Signs.{signed_below, signed_above, low_extended}
+use Rattle.extensions.proofs.SignedOrder.{same_order}
 use Rattle.extensions.specs.Atomic.{amo_result}
 use Rattle.extensions.specs.declared.Amo.{Amo}
 use Rattle.extensions.specs.declared.Amo.TheVariants.{Swap, Add, Xor, And, Or, Min, Max, Minu, Maxu}
@@ -17,10 +18,6 @@ use Rattle.extensions.proofs.Words.{signed_wide}
 -- the register that holds the low k bits of a, extended
 abbrev wide : ℕ → ℕ → ℕ
 wide k a = extended k (pos a)
-
--- two tests that pass together
-same_order : (a b c d : ℕ) → (a < b → c < d) → (b ≤ a → d ≤ c) → ltb a b ≡ ltb c d
-same_order a b c d f g = by_order a b (λ h. rw (lt-ltb a b h, lt-ltb c d (f h))) (λ h. rw (le-ltb a b h, le-ltb c d (g h)))
 
 module _ (k : ℕ) (some : 0 < k) (fits : k ≤ 64) where
   within : 2 ^ k ≤ 2 ^ 64
