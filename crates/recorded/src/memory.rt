@@ -60,7 +60,7 @@ fn hold(memory: &mut [u8; BYTES], words: &[u64; BYTES]) {
     }
 }
 
-// Whether the memory is these words. (All of them are looked at, without an early end: so several are at once.)
+// Whether the memory is these words. (All of them are looked at, without an early end, so that several are compared at once.)
 fn is(memory: &[u8; BYTES], words: &[u64]) -> bool {
     let apart = memory.iter().zip(words).fold(
         0,
